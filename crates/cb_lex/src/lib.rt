@@ -1,0 +1,10 @@
+//! Tokens of a text, and the raw syntax that they spell.
+#![tactic(auto)]
+
+pub mod bytes;
+pub mod token;
+
+use std::alloc::AllocError;
+
+/// Want of memory.
+pub type Memory = AllocError;
