@@ -2,6 +2,9 @@
 #![tactic(auto)]
 
 pub mod bytes;
+pub mod front;
+pub mod lexer;
+pub mod spelling;
 pub mod token;
 
 use std::alloc::AllocError;
