@@ -4,6 +4,7 @@
 pub mod bytes;
 pub mod front;
 pub mod lexer;
+pub mod raw;
 pub mod spelling;
 pub mod token;
 
