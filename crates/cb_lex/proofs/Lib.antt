@@ -1,3 +1,4 @@
 pub mod Cutting
 pub mod Lengths
 pub mod Numerals
+pub mod Signs

@@ -12,4 +12,5 @@ pub mod RawTermCodes
 pub mod RawTermFalls
 pub mod RawTermTree
 pub mod RawTermView
+pub mod SignRows
 pub mod Spelling
