@@ -1,3 +1,4 @@
+pub mod Laws
 pub mod Lexes
 pub mod Lexis
 pub mod RawProcessCodes

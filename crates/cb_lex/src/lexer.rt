@@ -122,3 +122,6 @@ pub fn tokens(alloc: Global, bytes: &[u8]) -> Result<Vec<Token>, LexFault>
         }
     }
 }
+
+#[cfg(test)]
+mod tests;

@@ -3,6 +3,7 @@
 
 pub mod bytes;
 pub mod front;
+pub mod laws;
 pub mod lexer;
 pub mod raw;
 pub mod spelling;
