@@ -6,7 +6,7 @@ use Rattle.cb_lex.specs.declared.token.Keyword.{Keyword}
 use Rattle.cb_lex.specs.declared.token.Sign.{Sign}
 use Rattle.cb_lex.specs.declared.front.Front.TheVariants.{Gap}
 use Rattle.cb_lex.specs.Spelling.{keyword_of, sign_at}
-use Rattle.cb_lex.specs.Lexis.{is_blank, is_word, run_length, starts, number_of, comment_from, opens, marks_number, may_open, plain_front, numbered_front, opened_front, word_front, number_front, digits_front, comment_front, sign_front, other_front, front}
+use Rattle.cb_lex.specs.Lexis.{is_blank, is_word, run_length, starts, comment_from, opens, marks_number, may_open, plain_front, numbered_front, opened_front, word_front, number_front, digits_front, comment_front, sign_front, other_front, front}
 use Rattle.std.specs.Char.{is_ascii_alphabetic}
 use Rattle.cb_lex.specs.Laws.{IsLongest}
 use Rattle.cb_lex.proofs.Spelled.{sign_longest, sign_none}

@@ -1,7 +1,6 @@
 use Rattle.std.proofs.Common.{◌≡◌, ℕ, List, [], ◌∷◌, refl, ap, sym, ◌∙◌, take, drop}
 use Rattle.std.specs.Prelude.{Result, Ok, Err}
 use Rattle.cb_lex.specs.declared.token.Place.{Place}
-use Rattle.cb_lex.specs.declared.token.Sort.{Sort}
 use Rattle.cb_lex.specs.declared.token.Sort.TheVariants as sort
 use Rattle.cb_lex.specs.declared.token.Token.{Token}
 use Rattle.cb_lex.specs.declared.lexer.LexFault.{LexFault}

@@ -3,7 +3,6 @@ use Rattle.std.specs.Prelude.{ℕ, zero, suc, pos, ◌+◌, ◌-◌, ◌*◌, �
 use Rattle.std.specs.Char.{is_ascii_digit, is_ascii_alphabetic, is_ascii_alphanumeric}
 use Rattle.cb_lex.specs.declared.token.Keyword.{Keyword}
 use Rattle.cb_lex.specs.declared.token.Keyword.TheVariants as keyword
-use Rattle.cb_lex.specs.declared.token.Sort.{Sort}
 use Rattle.cb_lex.specs.declared.token.Sort.TheVariants as sort
 use Rattle.cb_lex.specs.declared.token.Sign.{Sign}
 use Rattle.cb_lex.specs.declared.front.Front.{Front}

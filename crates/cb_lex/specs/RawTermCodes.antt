@@ -1,6 +1,6 @@
 -- How the logic stores the trees. Written by tools/gen_codes.py from tools/trees/raw_term.trees: change that, and not this file.
 use Rattle.std.proofs.Common.{◌≡◌, ◌≢◌, ℕ, refl, ap, arith}
-use Rattle.std.specs.Coded.{Coded, coded_ℕ, coded_ℤ, coded_bool}
+use Rattle.std.specs.Coded.{Coded, coded_ℤ}
 use base.Stored.{Gv, gnil, gnum, gcons}
 use Rattle.cb_lex.specs.contracts.token.Place as place
 use Rattle.cb_lex.specs.contracts.raw.name.RawName as name

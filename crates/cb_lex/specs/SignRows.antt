@@ -6,10 +6,10 @@ use Rattle.cb_lex.specs.Spelling.{begins}
 
 -- the bytes of a row's sign
 abbrev pub mark : SignRow → List ℕ
-mark r = r.first ∷ (if r.second == 0 then [] else r.second ∷ (if r.third == 0 then [] else r.third ∷ []))
+mark r = r.0 ∷ (if r.1 == 0 then [] else r.1 ∷ (if r.2 == 0 then [] else r.2 ∷ []))
 
 abbrev pub row_measured : SignRow → Sign × ℕ
-row_measured r = (r.sign, length (mark r))
+row_measured r = (r.3, length (mark r))
 
 -- the first row whose sign is at the front
 abbrev pub row_in : List SignRow → List ℕ → Option SignRow
