@@ -4,12 +4,8 @@ use Rattle.std.specs.Ordering.{int_eq}
 use Rattle.cb_term.specs.Names.{same_name}
 use Rattle.cb_term.specs.Kinds.{same_kind}
 use Rattle.cb_term.specs.Signs.{same_sign, same_rel}
+use Rattle.cb_term.specs.Values.{same_truth}
 use Rattle.cb_term.specs.Tree.{TermTree, Var, Bound, Num, Truth, Elem, Bin, Neg, Card, Listed, Elems, Truths, Test, TermTrees, End, More, FormulaTree, True, False, Rel, Not, And, Or, Implies, Iff, Every, Exist}
-
-abbrev pub same_truth : Bool → Bool → Bool
-same_truth true true = true
-same_truth false false = true
-same_truth b c = false
 
 abbrev mutual
   pub same_term : TermTree → TermTree → Bool

@@ -1,6 +1,6 @@
 -- The printed text of terms and formulas. `sets` are the enumerated sets, and `bound` has the written names of the binders
 -- around the tree, the innermost last. What the table or the binders lack prints nothing.
-use Rattle.std.specs.Prelude.{ℕ, ◌-◌, ◌==◌, nat_lt, Bool, true, false, not, ◌&&◌, if◌then◌else◌, List, [], ◌∷◌, ◌++◌, length, Option, Some, None, slice_get, codes, decimal}
+use Rattle.std.specs.Prelude.{ℕ, ◌-◌, ◌==◌, nat_lt, Bool, true, false, not, if◌then◌else◌, List, [], ◌∷◌, ◌++◌, length, Option, Some, None, slice_get, codes, decimal}
 pub use Rattle.std.specs.Fmt.{signed_decimal}
 use Rattle.cb_term.specs.declared.name.Name.{Name}
 use Rattle.cb_term.specs.declared.table.SetNames.{SetNames}
@@ -50,7 +50,7 @@ rel_sign_text AtMost = codes " <= "
 rel_sign_text Member = codes " : "
 rel_sign_text Subset = codes " <: "
 
--- ---- parentheses
+-- ---- trees
 
 abbrev pub only_if : Bool → List ℕ → List ℕ
 only_if wanted bytes = if wanted then bytes else []
@@ -58,59 +58,53 @@ only_if wanted bytes = if wanted then bytes else []
 abbrev pub wrapped : Bool → List ℕ → List ℕ
 wrapped w bytes = only_if w (codes "(") ++ bytes ++ only_if w (codes ")")
 
-abbrev pub is_binary : TermTree → Bool
-is_binary (Bin sign a b) = true
-is_binary t = false
+-- `=` and `:`, which print a negation as a sign of their own
+abbrev pub has_negated_sign : FormulaTree → Bool
+has_negated_sign (Rel Equal a b) = true
+has_negated_sign (Rel Member a b) = true
+has_negated_sign f = false
 
-abbrev pub is_connective : FormulaTree → Bool
-is_connective (And f g) = true
-is_connective (Or f g) = true
-is_connective (Implies f g) = true
-is_connective (Iff f g) = true
-is_connective f = false
+abbrev pub is_and : FormulaTree → Bool
+is_and (And f g) = true
+is_and f = false
 
--- whether a left operand of `&`, and of `or`, has parentheses
-abbrev pub wraps_in_and : FormulaTree → Bool
-wraps_in_and (And f g) = false
-wraps_in_and f = is_connective f
+abbrev pub is_or : FormulaTree → Bool
+is_or (Or f g) = true
+is_or f = false
 
-abbrev pub wraps_in_or : FormulaTree → Bool
-wraps_in_or (Or f g) = false
-wraps_in_or f = is_connective f
-
--- ---- trees
-
+-- A tree that is `inner` is an operand, of a sign, a minus or a connective: then it has parentheses if it has such a sign or
+-- connective between two operands itself. Only an `&` on the left of an `&`, and an `or` on the left of an `or`, has none
 module _ (sets : List SetNames) where
   abbrev mutual
-    pub term_text : List Name → TermTree → List ℕ
-    term_text bound (Var x) = name_text x
-    term_text bound (Bound k) = bound_text bound k
-    term_text bound (Num n) = signed_decimal n
-    term_text bound (Truth b) = if b then codes "TRUE" else codes "FALSE"
-    term_text bound (Elem set index) = element_text (slice_get sets set) index
-    term_text bound (Bin sign a b) = wrapped (is_binary a) (term_text bound a) ++ term_sign_text sign ++ wrapped (is_binary b) (term_text bound b)
-    term_text bound (Neg a) = codes "-" ++ wrapped (is_binary a) (term_text bound a)
-    term_text bound (Card a) = codes "card(" ++ term_text bound a ++ codes ")"
-    term_text bound (Listed ts) = codes "{" ++ terms_text bound true ts ++ codes "}"
-    term_text bound (Elems set) = set_text (slice_get sets set)
-    term_text bound Truths = codes "BOOL"
-    term_text bound (Test f) = codes "bool(" ++ formula_text bound f ++ codes ")"
+    pub term_text : List Name → Bool → TermTree → List ℕ
+    term_text bound inner (Var x) = name_text x
+    term_text bound inner (Bound k) = bound_text bound k
+    term_text bound inner (Num n) = signed_decimal n
+    term_text bound inner (Truth b) = if b then codes "TRUE" else codes "FALSE"
+    term_text bound inner (Elem set index) = element_text (slice_get sets set) index
+    term_text bound inner (Bin sign a b) = wrapped inner (term_text bound true a ++ term_sign_text sign ++ term_text bound true b)
+    term_text bound inner (Neg a) = codes "-" ++ term_text bound true a
+    term_text bound inner (Card a) = codes "card(" ++ term_text bound false a ++ codes ")"
+    term_text bound inner (Listed ts) = codes "{" ++ terms_text bound true ts ++ codes "}"
+    term_text bound inner (Elems set) = set_text (slice_get sets set)
+    term_text bound inner Truths = codes "BOOL"
+    term_text bound inner (Test f) = codes "bool(" ++ formula_text bound false f ++ codes ")"
 
     -- the terms with commas between them
     pub terms_text : List Name → Bool → TermTrees → List ℕ
     terms_text bound first End = []
-    terms_text bound first (More t ts) = only_if (not first) (codes ", ") ++ term_text bound t ++ terms_text bound false ts
+    terms_text bound first (More t ts) = only_if (not first) (codes ", ") ++ term_text bound false t ++ terms_text bound false ts
 
-    pub formula_text : List Name → FormulaTree → List ℕ
-    formula_text bound True = codes "btrue"
-    formula_text bound False = codes "bfalse"
-    formula_text bound (Rel sign a b) = term_text bound a ++ rel_sign_text sign ++ term_text bound b
-    formula_text bound (Not (Rel Equal a b)) = term_text bound a ++ codes " /= " ++ term_text bound b
-    formula_text bound (Not (Rel Member a b)) = term_text bound a ++ codes " /: " ++ term_text bound b
-    formula_text bound (Not f) = codes "not (" ++ formula_text bound f ++ codes ")"
-    formula_text bound (And f g) = wrapped (wraps_in_and f) (formula_text bound f) ++ codes " & " ++ wrapped (is_connective g) (formula_text bound g)
-    formula_text bound (Or f g) = wrapped (wraps_in_or f) (formula_text bound f) ++ codes " or " ++ wrapped (is_connective g) (formula_text bound g)
-    formula_text bound (Implies f g) = wrapped (is_connective f) (formula_text bound f) ++ codes " => " ++ wrapped (is_connective g) (formula_text bound g)
-    formula_text bound (Iff f g) = wrapped (is_connective f) (formula_text bound f) ++ codes " <=> " ++ wrapped (is_connective g) (formula_text bound g)
-    formula_text bound (Every x kind f) = codes "!" ++ name_text x ++ codes ".(" ++ formula_text (bound ++ x ∷ []) f ++ codes ")"
-    formula_text bound (Exist x kind f) = codes "#" ++ name_text x ++ codes ".(" ++ formula_text (bound ++ x ∷ []) f ++ codes ")"
+    pub formula_text : List Name → Bool → FormulaTree → List ℕ
+    formula_text bound inner True = codes "btrue"
+    formula_text bound inner False = codes "bfalse"
+    formula_text bound inner (Rel sign a b) = term_text bound false a ++ rel_sign_text sign ++ term_text bound false b
+    formula_text bound inner (Not (Rel Equal a b)) = term_text bound false a ++ codes " /= " ++ term_text bound false b
+    formula_text bound inner (Not (Rel Member a b)) = term_text bound false a ++ codes " /: " ++ term_text bound false b
+    formula_text bound inner (Not f) = codes "not (" ++ formula_text bound false f ++ codes ")"
+    formula_text bound inner (And f g) = wrapped inner (formula_text bound (not (is_and f)) f ++ codes " & " ++ formula_text bound true g)
+    formula_text bound inner (Or f g) = wrapped inner (formula_text bound (not (is_or f)) f ++ codes " or " ++ formula_text bound true g)
+    formula_text bound inner (Implies f g) = wrapped inner (formula_text bound true f ++ codes " => " ++ formula_text bound true g)
+    formula_text bound inner (Iff f g) = wrapped inner (formula_text bound true f ++ codes " <=> " ++ formula_text bound true g)
+    formula_text bound inner (Every x kind f) = codes "!" ++ name_text x ++ codes ".(" ++ formula_text (bound ++ x ∷ []) false f ++ codes ")"
+    formula_text bound inner (Exist x kind f) = codes "#" ++ name_text x ++ codes ".(" ++ formula_text (bound ++ x ∷ []) false f ++ codes ")"

@@ -27,6 +27,11 @@ abbrev pub bit : Bool → ℤ
 bit true = pos 1
 bit false = pos 0
 
+abbrev pub same_truth : Bool → Bool → Bool
+same_truth true true = true
+same_truth false false = true
+same_truth a b = false
+
 -- `-` is the difference of two numbers, and the difference of two sets
 abbrev pub minus : Value → Value → Value
 minus (Int x) (Int y) = Int (x -ℤ y)
@@ -55,7 +60,7 @@ card v = nothing
 
 abbrev pub rel : RelSign → Value → Value → Bool
 rel Equal (Int x) (Int y) = int_eq x y
-rel Equal (Truth a) (Truth b) = int_eq (bit a) (bit b)
+rel Equal (Truth a) (Truth b) = same_truth a b
 rel Equal (Elem j) (Elem k) = j == k
 rel Equal (Set xs) (Set ys) = same_items xs ys
 rel Less (Int x) (Int y) = int_lt x y

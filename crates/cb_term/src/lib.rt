@@ -4,12 +4,23 @@
 
 use std::alloc::AllocError;
 
+pub mod build;
+pub mod change;
+pub mod copy;
+pub mod count;
+pub mod equal;
+pub mod free;
 pub mod kind;
+pub mod laws;
 pub mod name;
 pub mod sign;
 pub mod table;
+pub mod text;
 pub mod tree;
 pub mod value;
+
+#[cfg(test)]
+mod tests;
 
 /// Want of memory.
 pub type Memory = AllocError;
