@@ -1,6 +1,6 @@
 -- The text of a negation.
 use Rattle.std.specs.Prelude.{codes}
-use Rattle.std.proofs.Common.{◌≡◌, ℕ, Bool, true, false, List, [], ◌∷◌, ◌++◌, refl, sym, ap, ◌∙◌, append_nil, true≢false}
+use Rattle.std.proofs.Common.{◌≡◌, ℕ, Bool, true, false, List, [], ◌∷◌, ◌++◌, refl, sym, ap, ◌∙◌, append-nil, true≢false}
 use Rattle.cb_term.specs.declared.name.Name.{Name}
 use Rattle.cb_term.specs.declared.table.SetNames.{SetNames}
 use Rattle.cb_term.specs.declared.sign.RelSign.{RelSign}
@@ -28,10 +28,10 @@ plain_negation sets bound inner (Exist x k f) e = refl
 
 pub not_text : (sets : List SetNames) (bound : List Name) (inner : Bool) (f g : FormulaTree) (b : Bool) → f ≡ Not g → b ≡ has_negated_sign g → b ≡ false →
     formula_text sets bound inner f ≡ codes "not (" ++ formula_text sets bound false g ++ codes ")"
-not_text sets bound inner f g b is answer no = ap (formula_text sets bound inner) is ∙ plain_negation sets bound inner g (sym answer ∙ no)
+not_text sets bound inner f g b is answer off = ap (formula_text sets bound inner) is ∙ plain_negation sets bound inner g (sym answer ∙ off)
 
 pub nothing_put : (out' out x : List ℕ) (b : Bool) → out' ≡ out ++ only_if b x → b ≡ false → out' ≡ out
-nothing_put out' out x b is no = is ∙ ap (λ c. out ++ only_if c x) no ∙ append_nil out
+nothing_put out' out x b is off = is ∙ ap (λ c. out ++ only_if c x) off ∙ append-nil out
 
 pub unequal_text : (sets : List SetNames) (bound : List Name) (inner : Bool) (f : FormulaTree) (s : RelSign) (a b : TermTree) → f ≡ Rel s a b → s ≡ Equal →
     formula_text sets bound inner (Not f) ≡ term_text sets bound false a ++ codes " /= " ++ term_text sets bound false b

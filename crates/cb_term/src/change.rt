@@ -186,21 +186,17 @@ pub fn change_formula<C: Change>(
             change_formula(alloc, left, change, depth)?,
             change_formula(alloc, right, change, depth)?,
         ),
-        FormulaNode::Every { name, kind, body } => {
-            Formula::every(
-                alloc,
-                name.copy(alloc)?,
-                *kind,
-                change_formula(alloc, body, change, deeper(depth)?)?,
-            )
-        }
-        FormulaNode::Exist { name, kind, body } => {
-            Formula::exist(
-                alloc,
-                name.copy(alloc)?,
-                *kind,
-                change_formula(alloc, body, change, deeper(depth)?)?,
-            )
-        }
+        FormulaNode::Every { name, kind, body } => Formula::every(
+            alloc,
+            name.copy(alloc)?,
+            *kind,
+            change_formula(alloc, body, change, deeper(depth)?)?,
+        ),
+        FormulaNode::Exist { name, kind, body } => Formula::exist(
+            alloc,
+            name.copy(alloc)?,
+            *kind,
+            change_formula(alloc, body, change, deeper(depth)?)?,
+        ),
     }
 }

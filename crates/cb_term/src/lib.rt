@@ -22,5 +22,5 @@ pub mod value;
 #[cfg(test)]
 mod tests;
 
-/// Want of memory.
+/// Want of memory, the only error of this crate.
 pub type Memory = AllocError;

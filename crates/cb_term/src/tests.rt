@@ -177,7 +177,7 @@ fn prints(rt: HostRuntime) -> Result<(), Fail> {
         ("c1~<", "c#7 < -1"),
         ("a1+b1-l", "a + 1 <= b - 1"),
         ("ab+1*a1b/-=", "(a + b) * 1 = a - (1 / b)"),
-        ("ab%~a1.b#:", "-(a mod b) : a..card(b)"),
+        ("ab%~ab#.:", "-(a mod b) : a..card(b)"),
         ("ab:", "a : b"),
         ("abuab1}is", "a \\/ b <: a /\\ {b, 1}"),
         ("{gg}=", "{} = {green, green}"),

@@ -310,18 +310,21 @@ fn negated_within(
     ensures scope { OnOk result (bound.new ≡ bound.old) }
 {
     match &formula.node {
-        FormulaNode::Rel { sign: RelSign::Equal, left, right } => {
-            term_within(alloc, out, sets, bound, false, left)?;
-            put(out, b" /= ")?;
-            term_within(alloc, out, sets, bound, false, right)?;
-            Ok(true)
-        }
-        FormulaNode::Rel { sign: RelSign::Member, left, right } => {
-            term_within(alloc, out, sets, bound, false, left)?;
-            put(out, b" /: ")?;
-            term_within(alloc, out, sets, bound, false, right)?;
-            Ok(true)
-        }
+        FormulaNode::Rel { sign, left, right } => match *sign {
+            RelSign::Equal => {
+                term_within(alloc, out, sets, bound, false, left)?;
+                put(out, b" /= ")?;
+                term_within(alloc, out, sets, bound, false, right)?;
+                Ok(true)
+            }
+            RelSign::Member => {
+                term_within(alloc, out, sets, bound, false, left)?;
+                put(out, b" /: ")?;
+                term_within(alloc, out, sets, bound, false, right)?;
+                Ok(true)
+            }
+            _ => Ok(false),
+        },
         _ => Ok(false),
     }
 }
