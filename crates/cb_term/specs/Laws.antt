@@ -1,5 +1,5 @@
 -- What is true of every term and formula: of their values and truth, of trees that are the same, and of changed trees.
-use Rattle.std.specs.Prelude.{◌≡◌, ℕ, ◌+◌, Bool, true, ◌↔◌, List, [], ◌∷◌, ◌++◌, length, slice_index_or}
+use Rattle.std.specs.Prelude.{◌≡◌, ℕ, ◌+◌, true, ◌↔◌, List, [], ◌∷◌, ◌++◌, length, slice_index_or}
 use Rattle.cb_term.specs.declared.name.Name.{Name}
 use Rattle.cb_term.specs.declared.value.Value.{Value}
 use Rattle.cb_term.specs.Tree.{TermTree, FormulaTree}
