@@ -1,0 +1,11 @@
+pub mod ChangeLemmas
+pub mod ClosedLemmas
+pub mod Equivalences
+pub mod FreeLemmas
+pub mod HoldsLemmas
+pub mod LawLemmas
+pub mod SameLemmas
+pub mod Steps
+pub mod TextLemmas
+pub mod TreeLemmas
+pub mod ValueLemmas
