@@ -1,0 +1,5 @@
+pub mod Edge
+pub mod Memory
+pub mod Places
+pub mod Real
+pub mod Sinks
