@@ -1,7 +1,8 @@
 //! The calls that do all that the program does.
-ghost use Rattle.std.specs.Prelude.{◌≡◌, map, string_bytes, MatchOption};
+ghost use Rattle.std.specs.Prelude.{◌≡◌, ◌≢◌, map, string_bytes, MatchOption, Some};
 ghost use Rattle.cb_words.specs.Spelled.{spelled};
 ghost use Rattle.cb_top.specs.Change.{change, sources};
+ghost use Rattle.cb_top.specs.Joined.{CanBeRead};
 ghost use Rattle.cb_top.specs.Answers.{Answers, WordsAnswers};
 ghost use Rattle.cb_top.specs.Request.{names_of};
 ghost use Rattle.cb_top.specs.Outcome.{verdict_status, refusal_status};
@@ -25,10 +26,12 @@ pub fn command<R: Threads + Wait + Sync, F: Files, K: Sink, E: Sink, G: Gate + S
     err: &mut E,
     _gate: &G,
 ) -> u8
-    ensures { MatchOption (spelled (map string_bytes words.now))
+    ensures answers { MatchOption (spelled (map string_bytes words.now))
         (WordsAnswers (change K.written K.faults out.old out.new) (change E.written E.faults err.old err.new) result)
         (λ request. Answers request (names_of request) (sources F.held F.faults files.old files.new)
         (change K.written K.faults out.old out.new) (change E.written E.faults err.old err.new) result) }
+    ensures reads { (request : Request) → spelled (map string_bytes words.now) ≡ Some request →
+        CanBeRead (F.sure files.old) (F.faults files.old) (names_of request) → result ≢ 4 }
 {
     match words_of(alloc, words) {
         Ok(request) => quiet_command(alloc, &request, files, out, err),
@@ -45,8 +48,9 @@ pub fn quiet_command<F: Files, K: Sink, E: Sink>(
     out: &mut K,
     err: &mut E,
 ) -> u8
-    ensures { Answers request.now (names_of request.now) (sources F.held F.faults files.old files.new)
+    ensures answers { Answers request.now (names_of request.now) (sources F.held F.faults files.old files.new)
         (change K.written K.faults out.old out.new) (change E.written E.faults err.old err.new) result }
+    ensures reads { CanBeRead (F.sure files.old) (F.faults files.old) (names_of request.now) → result ≢ 4 }
 {
     match answer(alloc, request, file_names(request), files) {
         Ok(Outcome::Text { verdict, text }) => {

@@ -1,5 +1,6 @@
 //! What a request answers on the bytes of its files.
 ghost use Rattle.std.specs.Prelude.{◌≡◌, ℕ, ◌≤◌, ◌<◌, List, [], length, map, string_bytes, IfOk, IfErr, slice_index_or};
+ghost use Rattle.cb_edge.specs.Edge.{StaysSure};
 ghost use Rattle.cb_top.specs.Change.{sources};
 ghost use Rattle.cb_top.specs.Joined.{joined, AreHeld};
 ghost use Rattle.cb_top.specs.Stop.{HasFileCause};
@@ -24,6 +25,7 @@ pub(crate) fn answer<F: Files>(
 ) -> Result<Outcome, Stop>
     ensures outcome { IfOk result (λ o. (contents : List (List ℕ)) →
         AreHeld (F.held files.old) (map string_bytes names.now) contents → IsOutcome request.now (joined contents) (answer_of o)) }
+    ensures sure { StaysSure (F.sure files.old) (F.sure files.new) (F.faults files.old) (F.faults files.new) }
     ensures unread { IfErr result (λ stop. HasFileCause (sources F.held F.faults files.old files.new) (map string_bytes names.now) stop) }
 {
     match read_files(alloc, files, names) {

@@ -9,14 +9,20 @@ use std::sync::Wait;
 use std::test::Fail;
 use std::thread::Threads;
 
-const HEAD: &str = "MACHINE Box VARIABLES n INVARIANT n : 0..9 INITIALISATION n := 0 OPERATIONS add(k) = PRE k : 1..9";
+const HEAD: &str =
+    "MACHINE Box VARIABLES n INVARIANT n : 0..9 INITIALISATION n := 0 OPERATIONS add(k) = PRE k : 1..9";
+
 const GUARD: &str = " & n + k <= 9";
-const TAIL: &str =
-    " THEN n := n + k END; r <-- take = PRE n > 0 THEN r := n || n := 0 END END ";
+
+const TAIL: &str = " THEN n := n + k END; r <-- take = PRE n > 0 THEN r := n || n := 0 END END ";
+
 const INIT: &str = "PROOF INIT:Box:1 EVAL END ";
+
 const ADD: &str =
     "PROOF OP:Box:add:1 RNGL 1 (RNGL 2 (RNG (LIN [0 * 1, 4 * 1, 6 * 1], HYP 3))) END ";
+
 const TAKE: &str = "PROOF OP:Box:take:1 EVAL END ";
+
 const PROVED: &str =
     "INIT:Box:1 proved\nOP:Box:add:1 proved\nOP:Box:take:1 proved\naccepted: 3 obligations\n";
 
@@ -89,10 +95,7 @@ fn judges_texts(rt: HostRuntime) -> Result<(), Fail> {
         ),
         (&["MACHINE M @"], (2, "", "fault BadByte 1:11\n")),
         (&["/* x"], (2, "", "fault OpenComment 1:1\n")),
-        (
-            &["9223372036854775808"],
-            (2, "", "fault LongNumber 1:1\n"),
-        ),
+        (&["9223372036854775808"], (2, "", "fault LongNumber 1:1\n")),
     ];
     for (parts, wanted) in rows {
         let contents = vec![in alloc; joined(alloc, parts)?]?;

@@ -38,9 +38,17 @@ pub(super) enum Relation {
 
 impl Relation {
     /// The relation after an assignment, from before it.
-    pub(super) fn replaced(&self, alloc: Global, writes: &[Option<Sum>]) -> Result<Relation, Misfit> {
+    pub(super) fn replaced(
+        &self,
+        alloc: Global,
+        writes: &[Option<Sum>],
+    ) -> Result<Relation, Misfit> {
         Ok(match self {
-            Relation::Compare { comparison, left, right } => Relation::Compare {
+            Relation::Compare {
+                comparison,
+                left,
+                right,
+            } => Relation::Compare {
                 comparison: *comparison,
                 left: replaced(alloc, left, writes)?,
                 right: replaced(alloc, right, writes)?,
@@ -104,7 +112,11 @@ pub(super) fn place_of(names: &[&[u8]], name: &[u8]) -> Option<usize> {
 }
 
 /// Reads a sum of names and numbers. The numbers are below 2 ^ 31, so that no value of a sum leaves its bounds.
-pub(super) fn read_sum(alloc: Global, reader: &mut Reader<'_>, scope: &Scope<'_>) -> Result<Sum, Misfit> {
+pub(super) fn read_sum(
+    alloc: Global,
+    reader: &mut Reader<'_>,
+    scope: &Scope<'_>,
+) -> Result<Sum, Misfit> {
     let mut atoms = Vec::new(alloc);
     for _ in 0..MOST_ITEMS {
         let atom = match reader.takes_number() {
@@ -121,18 +133,34 @@ pub(super) fn read_sum(alloc: Global, reader: &mut Reader<'_>, scope: &Scope<'_>
 }
 
 // Reads a relation. Those with `>` and `>=` are turned round.
-fn read_relation(alloc: Global, reader: &mut Reader<'_>, scope: &Scope<'_>) -> Result<Relation, Misfit> {
+fn read_relation(
+    alloc: Global,
+    reader: &mut Reader<'_>,
+    scope: &Scope<'_>,
+) -> Result<Relation, Misfit> {
     let first = read_sum(alloc, reader, scope)?;
     if reader.takes(Sign::Member) {
         let low = read_sum(alloc, reader, scope)?;
         reader.expect(Sign::UpTo)?;
         let high = read_sum(alloc, reader, scope)?;
-        return Ok(Relation::Member { term: first, low, high });
+        return Ok(Relation::Member {
+            term: first,
+            low,
+            high,
+        });
     }
     let (comparison, turned) = read_comparison(reader)?;
     let second = read_sum(alloc, reader, scope)?;
-    let (left, right) = if turned { (second, first) } else { (first, second) };
-    Ok(Relation::Compare { comparison, left, right })
+    let (left, right) = if turned {
+        (second, first)
+    } else {
+        (first, second)
+    };
+    Ok(Relation::Compare {
+        comparison,
+        left,
+        right,
+    })
 }
 
 // Reads a sign of comparison, and says whether its sides are to be turned round.
@@ -174,7 +202,11 @@ pub(super) fn gives_range(relations: &[Relation], name: Atom) -> Result<(), Misf
         if let Some((atom, low, high)) = range_of(relation)
             && atom == name
         {
-            return if low <= high { Ok(()) } else { Err(Misfit::Unfit) };
+            return if low <= high {
+                Ok(())
+            } else {
+                Err(Misfit::Unfit)
+            };
         }
     }
     Err(Misfit::Unfit)

@@ -1,5 +1,7 @@
 //! A machine, read into the obligations of its initialisation and of its operations.
-use crate::thin::formula::{Atom, Relation, Scope, Sum, gives_range, place_of, read_conjunction, read_sum};
+use crate::thin::formula::{
+    Atom, Relation, Scope, Sum, gives_range, place_of, read_conjunction, read_sum,
+};
 use crate::thin::reader::Reader;
 use crate::thin::{MOST_ITEMS, Misfit};
 use cb_lex::token::{Keyword, Sign};
@@ -32,7 +34,10 @@ struct Head<'a> {
 }
 
 /// Reads a machine.
-pub(super) fn read_machine<'a>(alloc: Global, reader: &mut Reader<'a>) -> Result<Machine<'a>, Misfit> {
+pub(super) fn read_machine<'a>(
+    alloc: Global,
+    reader: &mut Reader<'a>,
+) -> Result<Machine<'a>, Misfit> {
     let head = read_head(alloc, reader)?;
     let mut groups = Vec::new(alloc);
     groups.push(read_initialisation(alloc, reader, &head)?)?;
@@ -52,7 +57,10 @@ pub(super) fn read_machine<'a>(alloc: Global, reader: &mut Reader<'a>) -> Result
         }
     }
     differ(&operations)?;
-    Ok(Machine { name: head.name, groups })
+    Ok(Machine {
+        name: head.name,
+        groups,
+    })
 }
 
 fn read_head<'a>(alloc: Global, reader: &mut Reader<'a>) -> Result<Head<'a>, Misfit> {
@@ -61,7 +69,10 @@ fn read_head<'a>(alloc: Global, reader: &mut Reader<'a>) -> Result<Head<'a>, Mis
     reader.expect_keyword(Keyword::Variables)?;
     let variables = reader.names(alloc)?;
     reader.expect_keyword(Keyword::Invariant)?;
-    let scope = Scope { variables: &variables, parameters: &[] };
+    let scope = Scope {
+        variables: &variables,
+        parameters: &[],
+    };
     let invariant = read_conjunction(alloc, reader, &scope)?;
     let mut names = variables.clone()?;
     names.push(name)?;
@@ -69,7 +80,11 @@ fn read_head<'a>(alloc: Global, reader: &mut Reader<'a>) -> Result<Head<'a>, Mis
     for place in 0..variables.len() {
         gives_range(&invariant, Atom::Variable(place))?;
     }
-    Ok(Head { name, variables, invariant })
+    Ok(Head {
+        name,
+        variables,
+        invariant,
+    })
 }
 
 // The terms of an initialisation have no names.
@@ -79,7 +94,10 @@ fn read_initialisation<'a>(
     head: &Head<'a>,
 ) -> Result<Group<'a>, Misfit> {
     reader.expect_keyword(Keyword::Initialisation)?;
-    let scope = Scope { variables: &[], parameters: &[] };
+    let scope = Scope {
+        variables: &[],
+        parameters: &[],
+    };
     let writes = read_writes(alloc, reader, &scope, &head.variables)?;
     all_written(&writes)?;
     Ok(Group {

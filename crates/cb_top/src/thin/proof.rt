@@ -43,7 +43,10 @@ impl Rule {
 }
 
 /// Reads proofs up to the end of the text.
-pub(super) fn read_proofs<'a>(alloc: Global, reader: &mut Reader<'a>) -> Result<Vec<Proof<'a>>, Misfit> {
+pub(super) fn read_proofs<'a>(
+    alloc: Global,
+    reader: &mut Reader<'a>,
+) -> Result<Vec<Proof<'a>>, Misfit> {
     let mut proofs = Vec::new(alloc);
     for _ in 0..MOST_ITEMS * MOST_ITEMS {
         if reader.is_finished() {
@@ -134,7 +137,11 @@ fn read_rows(alloc: Global, reader: &mut Reader<'_>) -> Result<Vec<(usize, i64)>
         reader.expect(Sign::Times)?;
         let negative = reader.takes(Sign::Minus);
         let size = reader.takes_number().ok_or(Misfit::Unfit)?;
-        let multiplier = if negative { 0i64.checked_sub(size) } else { Some(size) };
+        let multiplier = if negative {
+            0i64.checked_sub(size)
+        } else {
+            Some(size)
+        };
         rows.push((row, multiplier.ok_or(Misfit::Unfit)?))?;
         if !reader.takes(Sign::Comma) {
             reader.expect(Sign::CloseBracket)?;

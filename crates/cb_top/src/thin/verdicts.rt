@@ -70,7 +70,11 @@ pub(super) fn print_verdicts(
     for group in &machine.groups {
         for (i, goal) in group.goals.iter().enumerate() {
             let rules = rest.next().copied().flatten();
-            let name = ProofName { machine: machine.name, operation: group.operation, number: i + 1 };
+            let name = ProofName {
+                machine: machine.name,
+                operation: group.operation,
+                number: i + 1,
+            };
             print_name(alloc, &mut text, &name)?;
             if !print_verdict(alloc, &mut text, &group.hypotheses, goal, rules)? {
                 refused = refused.saturating_add(1);
@@ -83,7 +87,11 @@ pub(super) fn print_verdicts(
         format!(in alloc; "refused: {refused} of {} obligations\n", all.len())?
     };
     text.extend_from_slice(last.as_bytes())?;
-    let verdict = if refused == 0 { Verdict::AllProved } else { Verdict::SomeOpen };
+    let verdict = if refused == 0 {
+        Verdict::AllProved
+    } else {
+        Verdict::SomeOpen
+    };
     Ok(Judged::Verdicts { verdict, text })
 }
 

@@ -17,5 +17,5 @@ either : (spelled : Option Request) (files : Sources) (out err : Change) (status
 either None files out err status still same line = words_answers out err status 6 memory_line (inr (refl, refl)) still line
 either (Some r) files out err status still same line = memory_answers r (names_of r) files out err status memory_line still same refl line
 
-pub returns-in-Err-Memory : goal.returns-in-Err-Memory
-returns-in-Err-Memory g c = either _ _ _ _ _ (appends_nothing _) refl c.print_line-in-Err-Memory.ensures
+pub returns-in-Err-Memory-clause-answers : goal.returns-in-Err-Memory-clause-answers
+returns-in-Err-Memory-clause-answers g c = either _ _ _ _ _ (appends_nothing _) refl c.print_line-in-Err-Memory.ensures
