@@ -1,0 +1,32 @@
+-- The request that the words spell.
+use Rattle.std.specs.Prelude.{ℕ, List, [], ◌∷◌, if◌then◌else◌, Some, None, codes}
+use Rattle.std.specs.Str.{bytes_eq}
+use Rattle.std.specs.declared.option.Option.{Option}
+use Rattle.clap.specs.Words.{Kinds, fault_of, matches_of, first_of, all_of}
+use Rattle.cb_words.specs.Line.{line_app}
+use Rattle.cb_words.specs.declared.request.Request.{Request}
+use Rattle.cb_words.specs.declared.request.Request.TheVariants.{Check}
+
+-- `check`: one file at least, and neither a limit nor a seed
+abbrev pub check_by : List (List ℕ) → Option (List ℕ) → Option (List ℕ) → Option Request
+check_by (file ∷ files) None None = Some (Check (file ∷ files))
+check_by files limit seed = None
+
+-- the request of an action with these files and these options; each action takes a word at least behind it
+abbrev pub request_by : Option (List ℕ) → Option (List (List ℕ)) → Option (List ℕ) → Option (List ℕ) → Option Request
+request_by (Some action) (Some files) limit seed =
+    (if bytes_eq action (codes "check") then check_by files limit seed
+    else None)
+request_by action files limit seed = None
+
+-- only where the command has no fault
+abbrev pub unless_fault : Kinds → Option Request → Option Request
+unless_fault [] request = request
+unless_fault (kind ∷ kinds) request = None
+
+-- what the words behind the program's name spell
+unfoldable pub spelled : List (List ℕ) → Option Request
+spelled words =
+    unless_fault (fault_of line_app words)
+    (request_by (first_of (codes "action") (matches_of line_app words)) (all_of (codes "files") (matches_of line_app words))
+    (first_of (codes "limit") (matches_of line_app words)) (first_of (codes "seed") (matches_of line_app words)))

@@ -1,0 +1,41 @@
+//! The request of a command line.
+ghost use Rattle.std.specs.Prelude.{◌≡◌, List, ℕ, map, string_bytes};
+
+use std::marker::Model;
+
+/// The names of the files of a request, in the order of the words.
+///
+/// Contracts see it as the list of the names.
+#[derive(Drop)]
+pub struct FileNames {
+    names: Vec<String>,
+}
+
+impl Model for FileNames {
+    ghost Value = { List (List ℕ) };
+
+    ghost view = { λ f. map string_bytes f.names.items };
+}
+
+impl FileNames {
+    /// The names, which are kept as they are.
+    pub fn new(names: Vec<String>) -> FileNames
+        ensures { result ≡ map string_bytes names.items }
+    {
+        FileNames { names }
+    }
+
+    /// The names, in the order of the words.
+    pub fn as_slice(&self) -> &[String]
+        ensures { map string_bytes result.now ≡ self.now }
+    {
+        &self.names
+    }
+}
+
+/// What is to be done.
+#[derive(Drop)]
+pub enum Request {
+    /// Judge the text of these files, one at least.
+    Check { files: FileNames },
+}
