@@ -3,12 +3,11 @@ use Rattle.std.specs.Prelude.{ℕ, zero, suc, pos, ◌+◌, ◌-◌, ◌*◌, �
 use Rattle.std.specs.Char.{is_ascii_digit, is_ascii_alphabetic, is_ascii_alphanumeric}
 use Rattle.cb_lex.specs.declared.token.Keyword.{Keyword}
 use Rattle.cb_lex.specs.declared.token.Keyword.TheVariants as keyword
-use Rattle.cb_lex.specs.declared.token.Sort.{Sort}
 use Rattle.cb_lex.specs.declared.token.Sort.TheVariants as sort
-use Rattle.cb_lex.specs.declared.spelling.SignRow.{SignRow}
+use Rattle.cb_lex.specs.declared.token.Sign.{Sign}
 use Rattle.cb_lex.specs.declared.front.Front.{Front}
 use Rattle.cb_lex.specs.declared.front.Front.TheVariants.{Nothing, Gap, Makes, Bad, Long, Open}
-use Rattle.cb_lex.specs.Spelling.{keyword_of, sign_at, mark}
+use Rattle.cb_lex.specs.Spelling.{keyword_of, sign_at, marks}
 
 -- blank, tab, carriage return, line feed
 abbrev pub is_blank : ℕ → Bool
@@ -90,9 +89,9 @@ abbrev pub comment_front : Option ℕ → Front
 comment_front None = Open
 comment_front (Some n) = Gap (n + 2)
 
-abbrev pub sign_front : Option SignRow → Front
+abbrev pub sign_front : Option Sign → Front
 sign_front None = Bad
-sign_front (Some row) = Makes (sort.Sign row.sign) (length (mark row))
+sign_front (Some s) = Makes (sort.Sign s) (length (marks s))
 
 abbrev pub other_front : List ℕ → Front
 other_front bs = if opens bs then comment_front (comment_from 0 (drop 2 bs)) else sign_front (sign_at bs)

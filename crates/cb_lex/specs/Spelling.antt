@@ -3,8 +3,8 @@ use Rattle.std.specs.Prelude.{ℕ, Bool, true, false, ◌&&◌, ◌==◌, if◌t
 use Rattle.std.specs.Str.{bytes_eq}
 use Rattle.cb_lex.specs.declared.token.Keyword.{Keyword}
 use Rattle.cb_lex.specs.declared.token.Keyword.TheVariants as keyword
-use Rattle.cb_lex.specs.declared.spelling.SignRow.{SignRow}
-use Rattle.cb_lex.specs.declared.spelling.TheConstants.{SIGNS}
+use Rattle.cb_lex.specs.declared.token.Sign.{Sign}
+use Rattle.cb_lex.specs.declared.token.Sign.TheVariants as sign
 
 abbrev pub letters : Keyword → List ℕ
 letters keyword.Machine = codes "MACHINE"
@@ -70,9 +70,54 @@ keyword_of word = spelled keywords word
 abbrev pub keywords_of_length : ℕ → List Keyword
 keywords_of_length n = filter (λ k. length (letters k) == n) keywords
 
--- the bytes of a row's sign
-abbrev pub mark : SignRow → List ℕ
-mark r = r.first ∷ (if r.second == 0 then [] else r.second ∷ (if r.third == 0 then [] else r.third ∷ []))
+-- the bytes of a sign
+abbrev pub marks : Sign → List ℕ
+marks sign.Assign = codes ":="
+marks sign.Among = codes "::"
+marks sign.Parallel = codes "||"
+marks sign.Returns = codes "<--"
+marks sign.Member = codes ":"
+marks sign.NotMember = codes "/:"
+marks sign.Subset = codes "<:"
+marks sign.Union = codes "\\/"
+marks sign.Intersection = codes "/\\"
+marks sign.UpTo = codes ".."
+marks sign.Dot = codes "."
+marks sign.Comma = codes ","
+marks sign.Semicolon = codes ";"
+marks sign.And = codes "&"
+marks sign.Implies = codes "=>"
+marks sign.Equivalent = codes "<=>"
+marks sign.Equal = codes "="
+marks sign.Unequal = codes "/="
+marks sign.Less = codes "<"
+marks sign.AtMost = codes "<="
+marks sign.Greater = codes ">"
+marks sign.AtLeast = codes ">="
+marks sign.Bang = codes "!"
+marks sign.Query = codes "?"
+marks sign.Hash = codes "#"
+marks sign.OpenParenthesis = codes "("
+marks sign.CloseParenthesis = codes ")"
+marks sign.OpenBrace = codes "{"
+marks sign.CloseBrace = codes "}"
+marks sign.OpenBracket = codes "["
+marks sign.CloseBracket = codes "]"
+marks sign.ExternalChoice = codes "[]"
+marks sign.InternalChoice = codes "|~|"
+marks sign.Arrow = codes "->"
+marks sign.Plus = codes "+"
+marks sign.Minus = codes "-"
+marks sign.Times = codes "*"
+marks sign.Divide = codes "/"
+
+-- a sign with the number of its bytes
+abbrev pub measured : Sign → Sign × ℕ
+measured s = (s, length (marks s))
+
+-- the signs, the longer ones first
+abbrev pub signs : List Sign
+signs = sign.Returns ∷ sign.Equivalent ∷ sign.InternalChoice ∷ sign.Assign ∷ sign.Among ∷ sign.Parallel ∷ sign.NotMember ∷ sign.Subset ∷ sign.Union ∷ sign.Intersection ∷ sign.UpTo ∷ sign.Implies ∷ sign.Unequal ∷ sign.AtMost ∷ sign.AtLeast ∷ sign.ExternalChoice ∷ sign.Arrow ∷ sign.OpenParenthesis ∷ sign.CloseParenthesis ∷ sign.Comma ∷ sign.Semicolon ∷ sign.Equal ∷ sign.Member ∷ sign.Dot ∷ sign.And ∷ sign.Less ∷ sign.Greater ∷ sign.Bang ∷ sign.Query ∷ sign.Hash ∷ sign.OpenBrace ∷ sign.CloseBrace ∷ sign.OpenBracket ∷ sign.CloseBracket ∷ sign.Plus ∷ sign.Minus ∷ sign.Times ∷ sign.Divide ∷ []
 
 -- whether bytes begin with a mark
 abbrev pub begins : List ℕ → List ℕ → Bool
@@ -80,11 +125,11 @@ begins [] bs = true
 begins (m ∷ ms) [] = false
 begins (m ∷ ms) (b ∷ bs) = (b == m) && begins ms bs
 
--- the first row whose sign is at the front
-abbrev pub sign_in : List SignRow → List ℕ → Option SignRow
+-- the first sign of a list that is at the front
+abbrev pub sign_in : List Sign → List ℕ → Option Sign
 sign_in [] bs = None
-sign_in (r ∷ rs) bs = if begins (mark r) bs then Some r else sign_in rs bs
+sign_in (s ∷ ss) bs = if begins (marks s) bs then Some s else sign_in ss bs
 
--- the longest sign at the front: the table has the longer ones first
-unfoldable pub sign_at : List ℕ → Option SignRow
-sign_at bs = sign_in SIGNS bs
+-- the longest sign at the front
+unfoldable pub sign_at : List ℕ → Option Sign
+sign_at bs = sign_in signs bs

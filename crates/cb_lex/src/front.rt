@@ -7,7 +7,7 @@ ghost use Rattle.cb_lex.specs.Lexis.{is_word, run_length, starts, number_of, ope
 
 use crate::Memory;
 use crate::bytes::Bytes;
-use crate::spelling::{keyword_of, mark_length, sign_at};
+use crate::spelling::{keyword_of, sign_at};
 use crate::token::{Keyword, Sort};
 use std::alloc::Global;
 
@@ -220,7 +220,7 @@ fn other(bytes: &[u8]) -> Front
         }
     } else {
         match sign_at(bytes) {
-            Some(row) => Front::Makes(Sort::Sign(row.sign), mark_length(row)),
+            Some((sign, length)) => Front::Makes(Sort::Sign(sign), length),
             None => Front::Bad,
         }
     }

@@ -85,6 +85,7 @@ fn moved_over(place: Place, bytes: &[u8], at: usize, len: usize) -> Place
     moved(place, &bytes[at..at + len])
 }
 
+// Adds a token.
 fn add(out: &mut Vec<Token>, sort: Sort, place: Place) -> Result<(), Memory>
     ensures { OnOk result (out.new.items ≡ out.old.items ++ (record { sort = sort; place = place }) ∷ []) }
 {
@@ -122,3 +123,6 @@ pub fn tokens(alloc: Global, bytes: &[u8]) -> Result<Vec<Token>, LexFault>
         }
     }
 }
+
+#[cfg(test)]
+mod tests;

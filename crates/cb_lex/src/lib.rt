@@ -3,7 +3,9 @@
 
 pub mod bytes;
 pub mod front;
+pub mod laws;
 pub mod lexer;
+pub mod raw;
 pub mod spelling;
 pub mod token;
 

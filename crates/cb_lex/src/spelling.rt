@@ -1,7 +1,9 @@
 //! How keywords and signs are spelled.
 
 ghost use Rattle.std.specs.Prelude.{◌≡◌, ◌≤◌, length, IsTrue, IfSome};
-ghost use Rattle.cb_lex.specs.Spelling.{letters, keywords_of_length, spelled, keyword_of, mark, begins, sign_in, sign_at};
+ghost use Rattle.std.specs.Option.{option_map};
+ghost use Rattle.cb_lex.specs.Spelling.{letters, keywords_of_length, spelled, keyword_of, begins, measured, sign_at};
+ghost use Rattle.cb_lex.specs.SignRows.{mark, row_in};
 
 use crate::token::{Keyword, Sign};
 
@@ -166,254 +168,59 @@ pub fn keyword_of(word: &[u8]) -> Option<Keyword>
     spelled(keywords_of_length(word.len()), word)
 }
 
-/// A sign and its one to three bytes, with 0 in place of those that it lacks.
-#[derive(Clone, Copy, Debug, PartialEq, Eq)]
-pub struct SignRow {
-    pub first: u8,
-    pub second: u8,
-    pub third: u8,
-    pub sign: Sign,
-}
+// The one to three bytes of a sign, with 0 in place of those that it lacks, and the sign.
+#[derive(Clone, Copy)]
+struct SignRow(u8, u8, u8, Sign);
 
-/// The signs. Of those that begin with the same byte the longer ones come first.
-pub static SIGNS: [SignRow; 38] = [
-    SignRow {
-        first: b'(',
-        second: 0,
-        third: 0,
-        sign: Sign::OpenParenthesis,
-    },
-    SignRow {
-        first: b')',
-        second: 0,
-        third: 0,
-        sign: Sign::CloseParenthesis,
-    },
-    SignRow {
-        first: b',',
-        second: 0,
-        third: 0,
-        sign: Sign::Comma,
-    },
-    SignRow {
-        first: b';',
-        second: 0,
-        third: 0,
-        sign: Sign::Semicolon,
-    },
-    SignRow {
-        first: b':',
-        second: b'=',
-        third: 0,
-        sign: Sign::Assign,
-    },
-    SignRow {
-        first: b':',
-        second: b':',
-        third: 0,
-        sign: Sign::Among,
-    },
-    SignRow {
-        first: b':',
-        second: 0,
-        third: 0,
-        sign: Sign::Member,
-    },
-    SignRow {
-        first: b'=',
-        second: b'>',
-        third: 0,
-        sign: Sign::Implies,
-    },
-    SignRow {
-        first: b'=',
-        second: 0,
-        third: 0,
-        sign: Sign::Equal,
-    },
-    SignRow {
-        first: b'&',
-        second: 0,
-        third: 0,
-        sign: Sign::And,
-    },
-    SignRow {
-        first: b'<',
-        second: b'-',
-        third: b'-',
-        sign: Sign::Returns,
-    },
-    SignRow {
-        first: b'<',
-        second: b'=',
-        third: b'>',
-        sign: Sign::Equivalent,
-    },
-    SignRow {
-        first: b'<',
-        second: b'=',
-        third: 0,
-        sign: Sign::AtMost,
-    },
-    SignRow {
-        first: b'<',
-        second: b':',
-        third: 0,
-        sign: Sign::Subset,
-    },
-    SignRow {
-        first: b'<',
-        second: 0,
-        third: 0,
-        sign: Sign::Less,
-    },
-    SignRow {
-        first: b'-',
-        second: b'>',
-        third: 0,
-        sign: Sign::Arrow,
-    },
-    SignRow {
-        first: b'-',
-        second: 0,
-        third: 0,
-        sign: Sign::Minus,
-    },
-    SignRow {
-        first: b'+',
-        second: 0,
-        third: 0,
-        sign: Sign::Plus,
-    },
-    SignRow {
-        first: b'.',
-        second: b'.',
-        third: 0,
-        sign: Sign::UpTo,
-    },
-    SignRow {
-        first: b'.',
-        second: 0,
-        third: 0,
-        sign: Sign::Dot,
-    },
-    SignRow {
-        first: b'|',
-        second: b'|',
-        third: 0,
-        sign: Sign::Parallel,
-    },
-    SignRow {
-        first: b'|',
-        second: b'~',
-        third: b'|',
-        sign: Sign::InternalChoice,
-    },
-    SignRow {
-        first: b'!',
-        second: 0,
-        third: 0,
-        sign: Sign::Bang,
-    },
-    SignRow {
-        first: b'?',
-        second: 0,
-        third: 0,
-        sign: Sign::Query,
-    },
-    SignRow {
-        first: b'#',
-        second: 0,
-        third: 0,
-        sign: Sign::Hash,
-    },
-    SignRow {
-        first: b'{',
-        second: 0,
-        third: 0,
-        sign: Sign::OpenBrace,
-    },
-    SignRow {
-        first: b'}',
-        second: 0,
-        third: 0,
-        sign: Sign::CloseBrace,
-    },
-    SignRow {
-        first: b'[',
-        second: b']',
-        third: 0,
-        sign: Sign::ExternalChoice,
-    },
-    SignRow {
-        first: b'[',
-        second: 0,
-        third: 0,
-        sign: Sign::OpenBracket,
-    },
-    SignRow {
-        first: b']',
-        second: 0,
-        third: 0,
-        sign: Sign::CloseBracket,
-    },
-    SignRow {
-        first: b'>',
-        second: b'=',
-        third: 0,
-        sign: Sign::AtLeast,
-    },
-    SignRow {
-        first: b'>',
-        second: 0,
-        third: 0,
-        sign: Sign::Greater,
-    },
-    SignRow {
-        first: b'*',
-        second: 0,
-        third: 0,
-        sign: Sign::Times,
-    },
-    SignRow {
-        first: b'/',
-        second: b'=',
-        third: 0,
-        sign: Sign::Unequal,
-    },
-    SignRow {
-        first: b'/',
-        second: b':',
-        third: 0,
-        sign: Sign::NotMember,
-    },
-    SignRow {
-        first: b'/',
-        second: b'\\',
-        third: 0,
-        sign: Sign::Intersection,
-    },
-    SignRow {
-        first: b'/',
-        second: 0,
-        third: 0,
-        sign: Sign::Divide,
-    },
-    SignRow {
-        first: b'\\',
-        second: b'/',
-        third: 0,
-        sign: Sign::Union,
-    },
+// The signs, the longer ones first.
+static SIGNS: [SignRow; 38] = [
+    SignRow(b'<', b'-', b'-', Sign::Returns),
+    SignRow(b'<', b'=', b'>', Sign::Equivalent),
+    SignRow(b'|', b'~', b'|', Sign::InternalChoice),
+    SignRow(b':', b'=', 0, Sign::Assign),
+    SignRow(b':', b':', 0, Sign::Among),
+    SignRow(b'|', b'|', 0, Sign::Parallel),
+    SignRow(b'/', b':', 0, Sign::NotMember),
+    SignRow(b'<', b':', 0, Sign::Subset),
+    SignRow(b'\\', b'/', 0, Sign::Union),
+    SignRow(b'/', b'\\', 0, Sign::Intersection),
+    SignRow(b'.', b'.', 0, Sign::UpTo),
+    SignRow(b'=', b'>', 0, Sign::Implies),
+    SignRow(b'/', b'=', 0, Sign::Unequal),
+    SignRow(b'<', b'=', 0, Sign::AtMost),
+    SignRow(b'>', b'=', 0, Sign::AtLeast),
+    SignRow(b'[', b']', 0, Sign::ExternalChoice),
+    SignRow(b'-', b'>', 0, Sign::Arrow),
+    SignRow(b'(', 0, 0, Sign::OpenParenthesis),
+    SignRow(b')', 0, 0, Sign::CloseParenthesis),
+    SignRow(b',', 0, 0, Sign::Comma),
+    SignRow(b';', 0, 0, Sign::Semicolon),
+    SignRow(b'=', 0, 0, Sign::Equal),
+    SignRow(b':', 0, 0, Sign::Member),
+    SignRow(b'.', 0, 0, Sign::Dot),
+    SignRow(b'&', 0, 0, Sign::And),
+    SignRow(b'<', 0, 0, Sign::Less),
+    SignRow(b'>', 0, 0, Sign::Greater),
+    SignRow(b'!', 0, 0, Sign::Bang),
+    SignRow(b'?', 0, 0, Sign::Query),
+    SignRow(b'#', 0, 0, Sign::Hash),
+    SignRow(b'{', 0, 0, Sign::OpenBrace),
+    SignRow(b'}', 0, 0, Sign::CloseBrace),
+    SignRow(b'[', 0, 0, Sign::OpenBracket),
+    SignRow(b']', 0, 0, Sign::CloseBracket),
+    SignRow(b'+', 0, 0, Sign::Plus),
+    SignRow(b'-', 0, 0, Sign::Minus),
+    SignRow(b'*', 0, 0, Sign::Times),
+    SignRow(b'/', 0, 0, Sign::Divide),
 ];
 
-// How many bytes a sign has.
-pub(crate) fn mark_length(row: SignRow) -> usize
+// How many bytes a row's sign has.
+fn mark_length(row: SignRow) -> usize
     ensures { result ≡ length (mark row) }
 {
-    if row.second == 0 {
+    if row.1 == 0 {
         1
-    } else if row.third == 0 {
+    } else if row.2 == 0 {
         2
     } else {
         3
@@ -427,16 +234,15 @@ fn begins(row: SignRow, bytes: &[u8]) -> bool
 {
     match bytes {
         [] => false,
-        [a] => *a == row.first && row.second == 0,
-        [a, b] => *a == row.first && (row.second == 0 || *b == row.second && row.third == 0),
-        [a, b, c, ..] => *a == row.first
-            && (row.second == 0 || *b == row.second && (row.third == 0 || *c == row.third)),
+        [a] => *a == row.0 && row.1 == 0,
+        [a, b] => *a == row.0 && (row.1 == 0 || *b == row.1 && row.2 == 0),
+        [a, b, c, ..] => *a == row.0 && (row.1 == 0 || *b == row.1 && (row.2 == 0 || *c == row.2)),
     }
 }
 
 // The first of the rows whose sign is at the front.
-fn sign_in(rows: &[SignRow], bytes: &[u8]) -> Option<SignRow>
-    ensures sign { result ≡ sign_in rows.now bytes.now }
+fn row_in(rows: &[SignRow], bytes: &[u8]) -> Option<SignRow>
+    ensures row { result ≡ row_in rows.now bytes.now }
     ensures within { IfSome result (λ row. length (mark row) ≤ length bytes.now) }
 {
     for row in rows {
@@ -447,10 +253,12 @@ fn sign_in(rows: &[SignRow], bytes: &[u8]) -> Option<SignRow>
     None
 }
 
-/// The longest sign at the front.
-pub fn sign_at(bytes: &[u8]) -> Option<SignRow>
-    ensures sign { result ≡ sign_at bytes.now }
-    ensures within { IfSome result (λ row. length (mark row) ≤ length bytes.now) }
+/// The longest sign at the front, and how many bytes it has.
+#[tactic(auto, using(std::proofs::lemmas::Grind::common_steps, crate::proofs::Signs::row_found))]
+pub fn sign_at(bytes: &[u8]) -> Option<(Sign, usize)>
+    ensures sign { result ≡ option_map measured (sign_at bytes.now) }
+    ensures within { IfSome result (λ s. s.1 ≤ length bytes.now) }
 {
-    sign_in(&SIGNS, bytes)
+    let row = row_in(&SIGNS, bytes)?;
+    Some((row.3, mark_length(row)))
 }
