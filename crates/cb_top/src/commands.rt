@@ -17,6 +17,10 @@ use std::sync::Wait;
 use std::thread::Threads;
 
 /// Does what the words of a command line say, and answers the status of the program.
+///
+/// The status is 0 where all is proved and 1 where an obligation isn't, 2 where the text is ill formed, 3 where the
+/// words spell no request, 4 where a file can't be read, 5 where a write failed, 6 for want of memory, and 7 where the
+/// files have too many bytes. From 2 on a line on `err` says why; a text on `out` comes with 0, with 1, or cut with 5.
 pub fn command<R: Threads + Wait + Sync, F: Files, K: Sink, E: Sink, G: Gate + Sync>(
     _rt: &R,
     alloc: Global,
@@ -40,7 +44,7 @@ pub fn command<R: Threads + Wait + Sync, F: Files, K: Sink, E: Sink, G: Gate + S
     }
 }
 
-/// Does what a request says. It always returns.
+/// Does what a request says, with the statuses of `command`. It always returns.
 pub fn quiet_command<F: Files, K: Sink, E: Sink>(
     alloc: Global,
     request: &Request,

@@ -196,7 +196,7 @@ pub(super) fn read_conjunction(
     Err(Misfit::Unfit)
 }
 
-/// The first range of numbers that a conjunction gives a name, and that isn't empty.
+/// Unfit unless a conjunction gives this name a range of numbers, whose first one isn't empty.
 pub(super) fn gives_range(relations: &[Relation], name: Atom) -> Result<(), Misfit> {
     for relation in relations {
         if let Some((atom, low, high)) = range_of(relation)

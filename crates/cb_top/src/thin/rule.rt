@@ -1,6 +1,6 @@
 //! The checking of a certificate against a sequent.
 use crate::thin::Misfit;
-use crate::thin::formula::{Atom, Comparison, Relation, Sum};
+use crate::thin::formula::{Atom, Comparison, Relation};
 use crate::thin::proof::Rule;
 use std::alloc::{AllocError, Global};
 

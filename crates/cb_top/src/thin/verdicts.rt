@@ -1,10 +1,10 @@
 //! The proofs of the obligations, and the verdicts.
 use crate::outcome::Verdict;
+use crate::thin::Judged;
 use crate::thin::formula::Relation;
-use crate::thin::machine::{Group, Machine};
+use crate::thin::machine::Machine;
 use crate::thin::proof::{Proof, ProofName, Rule};
 use crate::thin::rule::first_bad;
-use crate::thin::{Judged, Misfit};
 use std::alloc::{AllocError, Global};
 
 /// The rules of each obligation's proof, or the printed name of the first proof that fits none.
