@@ -1,0 +1,5 @@
+pub mod Hinted
+pub mod PartsFit
+pub mod Fine
+pub mod Words
+pub mod Answering
