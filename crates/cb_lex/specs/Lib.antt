@@ -1,0 +1,15 @@
+pub mod Lexes
+pub mod Lexis
+pub mod RawProcessCodes
+pub mod RawProcessFalls
+pub mod RawProcessTree
+pub mod RawProcessView
+pub mod RawSubstCodes
+pub mod RawSubstFalls
+pub mod RawSubstTree
+pub mod RawSubstView
+pub mod RawTermCodes
+pub mod RawTermFalls
+pub mod RawTermTree
+pub mod RawTermView
+pub mod Spelling

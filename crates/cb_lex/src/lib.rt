@@ -2,6 +2,10 @@
 #![tactic(auto)]
 
 pub mod bytes;
+pub mod front;
+pub mod lexer;
+pub mod raw;
+pub mod spelling;
 pub mod token;
 
 use std::alloc::AllocError;

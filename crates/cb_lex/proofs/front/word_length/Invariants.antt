@@ -1,0 +1,9 @@
+use Rattle.std.proofs.Common.{length, ◌-◌, ◌≡◌, ◌≤◌, ◌+◌, drop}
+use Rattle.cb_lex.specs.Lexis.{is_word, run_length}
+use Rattle.cb_lex.proofs.front.word_length.Given as goal
+
+abbrev pub invariant-loop-n : goal.invariant-loop-n
+invariant-loop-n l = (l.n ≤ length l.bytes) × (l.n + run_length is_word (drop l.n l.bytes) ≡ run_length is_word l.bytes)
+
+abbrev pub decreases-loop-n : goal.decreases-loop-n
+decreases-loop-n l = length l.bytes - l.n
