@@ -481,13 +481,25 @@ class Writer:
                '/// The alternatives of the grammar, part by part.',
                f'pub static GRAMMAR: [Symbol; {sum(1 + len(body) for *_, body in table.lines)}] = [']
         for part, key, keep, body in table.lines:
-            out.append(f'    // {table.names[part - 1]}' + (f' at {table.spelling[key]}' if key else ''))
-            out.append(f'    Symbol::Line({part}, {key}, {"true" if keep else "false"}),')
-            out += [f'    Symbol::{s[0]}({", ".join(map(str, s[1:]))}),' for s in body]
+            line = table.names[part - 1] + (f' at {table.spelling[key]}' if key else '')
+            out.append(f'    Symbol::Line({part}, {key}, {"true" if keep else "false"}), // {line}')
+            out += [f'    Symbol::{s[0]}({", ".join(map(str, s[1:]))}), // {line}: {self.shown(s)}' for s in body]
         out += ['];', '', '/// How many steps each part may take without a token.',
                 f'pub static WEIGHTS: [u8; {len(table.weights)}] = [']
         out += self.wrapped([f'{w},' for w in table.weights]) + ['];', '']
         return '\n'.join(out)
+
+    def shown(self, symbol):
+        """A symbol as the grammar file has it."""
+        table, numbers = self.table, symbol[1:]
+        if symbol[0] in ('Take', 'Keep'):
+            return ('^' if symbol[0] == 'Keep' else '') + table.spelling[numbers[0]]
+        if symbol[0] == 'Act':
+            return '@' + list(self.grammar.actions)[numbers[0]]
+        if symbol[0] == 'Gives':
+            return f'gives {numbers[0]}'
+        names = [table.names[number - 1] for number in numbers]
+        return names[0] if symbol[0] == 'Part' else f'then({", ".join(names)})'
 
     @staticmethod
     def wrapped(words):

@@ -58,7 +58,7 @@ pub record IsDeepAt (p : Part) (depth : ℕ) (opened : Bool) (ts : List Token) (
   pub deep : deep_in depth ts ≡ Some at
   pub begun : Begins language (symbols_of p) (take (at + 1) (terminals opened 0 ts))
 
--- the place of a token, or of the last one where there is none
+-- the place of a token, of the last one where there is none, or of a text's first byte where there are no tokens
 abbrev pub place_of : Option Token → Place
 place_of None = record { line = 1; col = 1 }
 place_of (Some t) = t.place

@@ -1,6 +1,6 @@
 //! Reading a part of the language from the lexer's tokens.
 
-ghost use Rattle.std.specs.Prelude.{◌≡◌, ◌≤◌, ◌<◌, length, IfOk, IfErr, Some, [], slice_get};
+ghost use Rattle.std.specs.Prelude.{◌≡◌, ◌≤◌, IfOk, IfErr, Some, []};
 ghost use Rattle.cb_engine.specs.Kinds.{kinds, Leaves};
 ghost use Rattle.cb_engine.specs.Readings.{IsReading};
 ghost use Rattle.cb_grammar.specs.Parts.{kinds_left};
@@ -14,16 +14,16 @@ use crate::table::{GRAMMAR, WEIGHTS};
 use crate::terminals::classes;
 use cb_engine::{Item, Reading, Terminal, index, read};
 use cb_lex::token::{Keyword, Place, Sign, Sort, Token};
-use std::alloc::{AllocError, AllocFailed, Global};
+use std::alloc::{AllocError, Global};
 use thiserror::Error;
 
 /// Why a part can't be read.
-#[derive(Clone, Copy, Debug, Drop, PartialEq, Eq, Error)]
+#[derive(Clone, Copy, Debug, PartialEq, Eq, Error)]
 pub enum SyntaxFault {
     /// The token at this place doesn't go on with what the tokens before it begin.
     #[error("line {}, column {}: the text does not go on like this", .0.line, .0.col)]
     Syntax(Place),
-    /// So it is, and the token is a sign that would join operands: signs that don't mix, or an operand that is none.
+    /// So it is, and the token is one of `&`, `or`, `=>`, `<=>`, `\/`, `/\`, `[]` and `|~|`, which don't mix with each other.
     #[error("line {}, column {}: this sign cannot stand here without parentheses", .0.line, .0.col)]
     Mixed(Place),
     /// The token at this place is nested too deep, and the tokens up to it begin the part.
@@ -82,9 +82,11 @@ fn end_of(reading: &Reading) -> usize
 
 // the place of a token, or of the last one where there is none
 fn place_of(tokens: &[Token], at: usize) -> Place
-    requires some { 0 < length tokens.now }
     ensures { result ≡ place_at tokens.now at }
 {
+    if tokens.is_empty() {
+        return Place { line: 1, col: 1 };
+    }
     let at = if at < tokens.len() {
         at
     } else {
@@ -114,7 +116,6 @@ fn is_joining(sort: &Sort) -> bool
 
 // the fault at a token that doesn't go on
 fn refusal(tokens: &[Token], at: usize) -> SyntaxFault
-    requires some { 0 < length tokens.now }
     ensures { result ≡ refused tokens.now at }
 {
     let place = place_of(tokens, at);
@@ -136,8 +137,7 @@ pub fn read_part(
     depth: u32,
     opened: bool,
 ) -> Result<Written, SyntaxFault>
-    requires some { 0 < length tokens.now }
-    requires low { depth ≤ 200 }
+    requires { depth ≤ 200 }
     ensures reads { IfOk result (λ w. IsRead part depth opened tokens.now w.taken w.items.items) }
     ensures fits { IfOk result (λ w. kinds signatures.action w.items.items [] ≡ Some (kinds_left part)) }
     ensures fault { IfErr result (Misread part depth opened tokens.now) }
@@ -152,3 +152,6 @@ pub fn read_part(
         Reading::Fault(at) => Err(refusal(tokens, at)),
     }
 }
+
+#[cfg(test)]
+mod tests;

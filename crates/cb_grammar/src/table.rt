@@ -4,1451 +4,1130 @@ use cb_engine::Symbol;
 
 /// The alternatives of the grammar, part by part.
 pub static GRAMMAR: [Symbol; 1124] = [
-    // whole
-    Symbol::Line(1, 0, false),
-    Symbol::Part(4),
-    Symbol::Part(70),
-    Symbol::Take(3),
-    // before_proofs
-    Symbol::Line(2, 0, false),
-    Symbol::Part(4),
-    Symbol::Part(87),
-    // only_proofs
-    Symbol::Line(3, 0, false),
-    Symbol::Part(70),
-    Symbol::Take(3),
-    // text
-    Symbol::Line(4, 0, false),
-    Symbol::Act(0),
-    Symbol::Part(88),
-    // more_text at MACHINE
-    Symbol::Line(5, 4, false),
-    Symbol::Keep(1),
-    Symbol::Act(5),
-    Symbol::Part(89),
-    Symbol::Part(91),
-    Symbol::Part(93),
-    Symbol::Part(94),
-    Symbol::Part(96),
-    Symbol::Take(13),
-    Symbol::Act(1),
-    Symbol::Part(5),
-    // more_text at CHANNELS
-    Symbol::Line(5, 24, false),
-    Symbol::Act(35),
-    Symbol::Part(30),
-    Symbol::Part(101),
-    Symbol::Take(13),
-    Symbol::Act(2),
-    Symbol::Part(7),
-    // more_text at CONTROLLER
-    Symbol::Line(5, 25, false),
-    Symbol::Keep(1),
-    Symbol::Act(37),
-    Symbol::Part(103),
-    Symbol::Take(27),
-    Symbol::Keep(1),
-    Symbol::Act(67),
-    Symbol::Part(104),
-    Symbol::Act(39),
-    Symbol::Take(28),
-    Symbol::Part(33),
-    Symbol::Part(105),
-    Symbol::Take(13),
-    Symbol::Act(3),
-    Symbol::Part(8),
-    // more_text
-    Symbol::Line(5, 0, false),
-    // system_text at CHANNELS
-    Symbol::Line(6, 24, false),
-    Symbol::Act(35),
-    Symbol::Part(30),
-    Symbol::Part(101),
-    Symbol::Take(13),
-    Symbol::Act(2),
-    Symbol::Part(7),
-    // system_text
-    Symbol::Line(6, 0, false),
-    Symbol::Part(7),
-    // controllers
-    Symbol::Line(7, 0, false),
-    Symbol::Part(32),
-    Symbol::Act(3),
-    Symbol::Part(8),
-    // more_controllers at CONTROLLER
-    Symbol::Line(8, 25, false),
-    Symbol::Keep(1),
-    Symbol::Act(37),
-    Symbol::Part(103),
-    Symbol::Take(27),
-    Symbol::Keep(1),
-    Symbol::Act(67),
-    Symbol::Part(104),
-    Symbol::Act(39),
-    Symbol::Take(28),
-    Symbol::Part(33),
-    Symbol::Part(105),
-    Symbol::Take(13),
-    Symbol::Act(3),
-    Symbol::Part(8),
-    // more_controllers
-    Symbol::Line(8, 0, false),
-    Symbol::Part(9),
-    // system at SYSTEM
-    Symbol::Line(9, 30, false),
-    Symbol::Part(11),
-    Symbol::Take(13),
-    Symbol::Act(4),
-    // machine at MACHINE
-    Symbol::Line(10, 4, false),
-    Symbol::Keep(1),
-    Symbol::Act(5),
-    Symbol::Part(89),
-    Symbol::Part(91),
-    Symbol::Part(93),
-    Symbol::Part(94),
-    Symbol::Part(96),
-    Symbol::Take(13),
-    // names
-    Symbol::Line(11, 0, false),
-    Symbol::Act(13),
-    Symbol::Keep(1),
-    Symbol::Act(14),
-    Symbol::Part(97),
-    // set at name
-    Symbol::Line(12, 1, true),
-    Symbol::Take(67),
-    Symbol::Take(78),
-    Symbol::Part(11),
-    Symbol::Take(79),
-    Symbol::Act(7),
-    // property at name
-    Symbol::Line(13, 1, true),
-    Symbol::Take(67),
-    Symbol::Part(14),
-    Symbol::Act(9),
-    // literal at -
-    Symbol::Line(14, 86, false),
-    Symbol::Keep(2),
-    Symbol::Act(16),
-    // literal at number
-    Symbol::Line(14, 2, true),
-    Symbol::Act(15),
-    // literal at MAXINT
-    Symbol::Line(14, 40, true),
-    Symbol::Act(15),
-    // literal at MININT
-    Symbol::Line(14, 41, true),
-    Symbol::Act(15),
-    // operation at name
-    Symbol::Line(15, 1, true),
-    Symbol::Part(16),
-    // operation_rest at ,
-    Symbol::Line(16, 62, false),
-    Symbol::Act(17),
-    Symbol::Keep(1),
-    Symbol::Act(18),
-    Symbol::Part(17),
-    Symbol::Take(54),
-    Symbol::Keep(1),
-    Symbol::Part(18),
-    Symbol::Act(12),
-    // operation_rest at <--
-    Symbol::Line(16, 54, false),
-    Symbol::Act(17),
-    Symbol::Keep(1),
-    Symbol::Part(18),
-    Symbol::Act(12),
-    // operation_rest
-    Symbol::Line(16, 0, false),
-    Symbol::Part(18),
-    Symbol::Act(11),
-    // more_results
-    Symbol::Line(17, 0, false),
-    Symbol::Part(98),
-    // signature at (
-    Symbol::Line(18, 76, false),
-    Symbol::Part(11),
-    Symbol::Take(77),
-    Symbol::Take(67),
-    Symbol::Part(19),
-    // signature at =
-    Symbol::Line(18, 67, false),
-    Symbol::Act(13),
-    Symbol::Part(19),
-    // body at PRE
-    Symbol::Line(19, 14, false),
-    Symbol::Part(42),
-    Symbol::Act(19),
-    Symbol::Take(15),
-    Symbol::Part(20),
-    Symbol::Take(13),
-    // body
-    Symbol::Line(19, 0, false),
-    Symbol::Act(20),
-    Symbol::Part(20),
-    // substitution
-    Symbol::Line(20, 0, false),
-    Symbol::Part(21),
-    Symbol::Part(99),
-    // simple at skip
-    Symbol::Line(21, 42, false),
-    Symbol::Act(22),
-    // simple at name
-    Symbol::Line(21, 1, true),
-    Symbol::Part(22),
-    // simple at BEGIN
-    Symbol::Line(21, 23, false),
-    Symbol::Part(20),
-    Symbol::Take(13),
-    // simple at IF
-    Symbol::Line(21, 16, false),
-    Symbol::Part(42),
-    Symbol::Take(15),
-    Symbol::Part(20),
-    Symbol::Part(23),
-    // simple at CHOICE
-    Symbol::Line(21, 19, false),
-    Symbol::Act(27),
-    Symbol::Part(20),
-    Symbol::Act(28),
-    Symbol::Take(20),
-    Symbol::Part(20),
-    Symbol::Act(28),
-    Symbol::Part(100),
-    Symbol::Take(13),
-    Symbol::Act(29),
-    // simple at ANY
-    Symbol::Line(21, 21, false),
-    Symbol::Keep(1),
-    Symbol::Take(22),
-    Symbol::Part(42),
-    Symbol::Take(15),
-    Symbol::Part(20),
-    Symbol::Take(13),
-    Symbol::Act(30),
-    // simple_rest at :=
-    Symbol::Line(22, 51, false),
-    Symbol::Part(57),
-    Symbol::Act(23),
-    // simple_rest at ::
-    Symbol::Line(22, 52, false),
-    Symbol::Part(24),
-    Symbol::Act(24),
-    // if_rest at ELSIF
-    Symbol::Line(23, 17, false),
-    Symbol::Part(42),
-    Symbol::Take(15),
-    Symbol::Part(20),
-    Symbol::Part(23),
-    Symbol::Act(25),
-    // if_rest at ELSE
-    Symbol::Line(23, 18, false),
-    Symbol::Part(20),
-    Symbol::Take(13),
-    Symbol::Act(25),
-    // if_rest at END
-    Symbol::Line(23, 13, false),
-    Symbol::Act(26),
-    // domain at NAT
-    Symbol::Line(24, 37, true),
-    Symbol::Act(31),
-    // domain at NAT1
-    Symbol::Line(24, 38, true),
-    Symbol::Act(31),
-    // domain at INT
-    Symbol::Line(24, 39, true),
-    Symbol::Act(31),
-    // domain at BOOL
-    Symbol::Line(24, 36, true),
-    Symbol::Act(31),
-    // domain at name
-    Symbol::Line(24, 1, true),
-    Symbol::Part(25),
-    // domain
-    Symbol::Line(24, 0, false),
-    Symbol::Part(26),
-    Symbol::Take(60),
-    Symbol::Part(27),
-    Symbol::Act(32),
-    // domain_rest at ..
-    Symbol::Line(25, 60, false),
-    Symbol::Act(33),
-    Symbol::Part(27),
-    Symbol::Act(32),
-    // domain_rest
-    Symbol::Line(25, 0, false),
-    Symbol::Act(31),
-    // other_bound at -
-    Symbol::Line(26, 86, false),
-    Symbol::Part(28),
-    Symbol::Act(34),
-    // other_bound at number
-    Symbol::Line(26, 2, true),
-    Symbol::Act(33),
-    // other_bound at MAXINT
-    Symbol::Line(26, 40, true),
-    Symbol::Act(33),
-    // other_bound at MININT
-    Symbol::Line(26, 41, true),
-    Symbol::Act(33),
-    // bound at -
-    Symbol::Line(27, 86, false),
-    Symbol::Part(28),
-    Symbol::Act(34),
-    // bound
-    Symbol::Line(27, 0, false),
-    Symbol::Part(28),
-    // plain_bound at number
-    Symbol::Line(28, 2, true),
-    Symbol::Act(33),
-    // plain_bound at MAXINT
-    Symbol::Line(28, 40, true),
-    Symbol::Act(33),
-    // plain_bound at MININT
-    Symbol::Line(28, 41, true),
-    Symbol::Act(33),
-    // plain_bound at name
-    Symbol::Line(28, 1, true),
-    Symbol::Act(33),
-    // channels at CHANNELS
-    Symbol::Line(29, 24, false),
-    Symbol::Act(35),
-    Symbol::Part(30),
-    Symbol::Part(101),
-    Symbol::Take(13),
-    // channel at name
-    Symbol::Line(30, 1, true),
-    Symbol::Take(76),
-    Symbol::Part(31),
-    Symbol::Part(102),
-    Symbol::Act(36),
-    // names_end at )
-    Symbol::Line(31, 77, false),
-    Symbol::Act(13),
-    // names_end
-    Symbol::Line(31, 0, false),
-    Symbol::Part(11),
-    Symbol::Take(77),
-    // controller at CONTROLLER
-    Symbol::Line(32, 25, false),
-    Symbol::Keep(1),
-    Symbol::Act(37),
-    Symbol::Part(103),
-    Symbol::Take(27),
-    Symbol::Keep(1),
-    Symbol::Act(67),
-    Symbol::Part(104),
-    Symbol::Act(39),
-    Symbol::Take(28),
-    Symbol::Part(33),
-    Symbol::Part(105),
-    Symbol::Take(13),
-    // definition at name
-    Symbol::Line(33, 1, true),
-    Symbol::Act(40),
-    Symbol::Part(106),
-    Symbol::Part(107),
-    Symbol::Take(67),
-    Symbol::Part(36),
-    Symbol::Act(44),
-    // parameters
-    Symbol::Line(34, 0, false),
-    Symbol::Part(35),
-    Symbol::Act(41),
-    Symbol::Part(108),
-    // parameter at name
-    Symbol::Line(35, 1, true),
-    Symbol::Part(109),
-    // process
-    Symbol::Line(36, 0, false),
-    Symbol::Part(38),
-    Symbol::Part(37),
-    // process_tail at []
-    Symbol::Line(37, 82, false),
-    Symbol::Part(38),
-    Symbol::Act(45),
-    Symbol::Part(110),
-    Symbol::Act(47),
-    // process_tail at |~|
-    Symbol::Line(37, 83, false),
-    Symbol::Part(38),
-    Symbol::Act(45),
-    Symbol::Part(111),
-    Symbol::Act(48),
-    // process_tail
-    Symbol::Line(37, 0, false),
-    // step at STOP
-    Symbol::Line(38, 32, true),
-    Symbol::Act(49),
-    // step at SKIP
-    Symbol::Line(38, 33, true),
-    Symbol::Act(50),
-    // step at (
-    Symbol::Line(38, 76, false),
-    Symbol::Part(36),
-    Symbol::Take(77),
-    // step at IF
-    Symbol::Line(38, 16, true),
-    Symbol::Part(42),
-    Symbol::Take(15),
-    Symbol::Part(36),
-    Symbol::Take(18),
-    Symbol::Part(36),
-    Symbol::Take(13),
-    Symbol::Act(51),
-    // step at name
-    Symbol::Line(38, 1, true),
-    Symbol::Part(39),
-    // step_rest at !
-    Symbol::Line(39, 73, false),
-    Symbol::Take(76),
-    Symbol::Act(67),
-    Symbol::Part(40),
-    Symbol::Part(41),
-    Symbol::Act(54),
-    Symbol::Take(84),
-    Symbol::Part(38),
-    Symbol::Act(53),
-    // step_rest at ?
-    Symbol::Line(39, 74, false),
-    Symbol::Take(76),
-    Symbol::Part(31),
-    Symbol::Part(41),
-    Symbol::Act(55),
-    Symbol::Take(84),
-    Symbol::Part(38),
-    Symbol::Act(53),
-    // step_rest at .
-    Symbol::Line(39, 61, false),
-    Symbol::Keep(1),
-    Symbol::Act(67),
-    Symbol::Part(112),
-    Symbol::Part(113),
-    Symbol::Act(56),
-    Symbol::Take(84),
-    Symbol::Part(38),
-    Symbol::Act(53),
-    // step_rest at (
-    Symbol::Line(39, 76, false),
-    Symbol::Act(67),
-    Symbol::Part(69),
-    Symbol::Take(77),
-    Symbol::Act(52),
-    // step_rest
-    Symbol::Line(39, 0, false),
-    Symbol::Act(67),
-    Symbol::Act(52),
-    // terms_end at )
-    Symbol::Line(40, 77, false),
-    // terms_end
-    Symbol::Line(40, 0, false),
-    Symbol::Part(69),
-    Symbol::Take(77),
-    // guard at {
-    Symbol::Line(41, 78, false),
-    Symbol::Part(42),
-    Symbol::Take(79),
-    Symbol::Act(19),
-    // guard
-    Symbol::Line(41, 0, false),
-    Symbol::Act(20),
-    // formula
-    Symbol::Line(42, 0, false),
-    Symbol::Part(49),
-    Symbol::Part(43),
-    // formula_tail at &
-    Symbol::Line(43, 64, false),
-    Symbol::Part(49),
-    Symbol::Act(60),
-    Symbol::Part(44),
-    Symbol::Part(46),
-    // formula_tail at or
-    Symbol::Line(43, 44, false),
-    Symbol::Part(49),
-    Symbol::Act(61),
-    Symbol::Part(45),
-    Symbol::Part(46),
-    // formula_tail at =>
-    Symbol::Line(43, 65, false),
-    Symbol::Part(47),
-    Symbol::Act(62),
-    // formula_tail at <=>
-    Symbol::Line(43, 66, false),
-    Symbol::Part(49),
-    Symbol::Act(63),
-    // formula_tail
-    Symbol::Line(43, 0, false),
-    // and_tail
-    Symbol::Line(44, 0, false),
-    Symbol::Part(114),
-    // or_tail
-    Symbol::Line(45, 0, false),
-    Symbol::Part(115),
-    // implies_tail
-    Symbol::Line(46, 0, false),
-    Symbol::Part(116),
-    // part
-    Symbol::Line(47, 0, false),
-    Symbol::Part(49),
-    Symbol::Part(48),
-    // part_tail at &
-    Symbol::Line(48, 64, false),
-    Symbol::Part(49),
-    Symbol::Act(60),
-    Symbol::Part(44),
-    // part_tail at or
-    Symbol::Line(48, 44, false),
-    Symbol::Part(49),
-    Symbol::Act(61),
-    Symbol::Part(45),
-    // part_tail
-    Symbol::Line(48, 0, false),
-    // unit at btrue
-    Symbol::Line(49, 49, false),
-    Symbol::Act(57),
-    // unit at bfalse
-    Symbol::Line(49, 50, false),
-    Symbol::Act(58),
-    // unit at not
-    Symbol::Line(49, 45, false),
-    Symbol::Take(76),
-    Symbol::Part(42),
-    Symbol::Take(77),
-    Symbol::Act(59),
-    // unit at !
-    Symbol::Line(49, 73, false),
-    Symbol::Keep(1),
-    Symbol::Take(61),
-    Symbol::Take(76),
-    Symbol::Part(47),
-    Symbol::Take(65),
-    Symbol::Part(47),
-    Symbol::Take(77),
-    Symbol::Act(64),
-    // unit at #
-    Symbol::Line(49, 75, false),
-    Symbol::Keep(1),
-    Symbol::Take(61),
-    Symbol::Take(76),
-    Symbol::Part(47),
-    Symbol::Take(77),
-    Symbol::Act(65),
-    // unit at (
-    Symbol::Line(49, 76, false),
-    Symbol::Part(53),
-    Symbol::Then(51, 52),
-    // unit
-    Symbol::Line(49, 0, false),
-    Symbol::Part(67),
-    Symbol::Part(58),
-    Symbol::Part(50),
-    // relation at =
-    Symbol::Line(50, 67, true),
-    Symbol::Part(57),
-    Symbol::Act(66),
-    // relation at /=
-    Symbol::Line(50, 68, true),
-    Symbol::Part(57),
-    Symbol::Act(66),
-    // relation at <
-    Symbol::Line(50, 69, true),
-    Symbol::Part(57),
-    Symbol::Act(66),
-    // relation at <=
-    Symbol::Line(50, 70, true),
-    Symbol::Part(57),
-    Symbol::Act(66),
-    // relation at >
-    Symbol::Line(50, 71, true),
-    Symbol::Part(57),
-    Symbol::Act(66),
-    // relation at >=
-    Symbol::Line(50, 72, true),
-    Symbol::Part(57),
-    Symbol::Act(66),
-    // relation at :
-    Symbol::Line(50, 55, true),
-    Symbol::Part(57),
-    Symbol::Act(66),
-    // relation at /:
-    Symbol::Line(50, 56, true),
-    Symbol::Part(57),
-    Symbol::Act(66),
-    // relation at <:
-    Symbol::Line(50, 57, true),
-    Symbol::Part(57),
-    Symbol::Act(66),
-    // after_formula at )
-    Symbol::Line(51, 77, false),
-    // after_term at )
-    Symbol::Line(52, 77, false),
-    Symbol::Part(58),
-    Symbol::Part(50),
-    // formula_or_term at btrue
-    Symbol::Line(53, 49, false),
-    Symbol::Act(57),
-    Symbol::Part(43),
-    Symbol::Gives(0),
-    // formula_or_term at bfalse
-    Symbol::Line(53, 50, false),
-    Symbol::Act(58),
-    Symbol::Part(43),
-    Symbol::Gives(0),
-    // formula_or_term at not
-    Symbol::Line(53, 45, false),
-    Symbol::Take(76),
-    Symbol::Part(42),
-    Symbol::Take(77),
-    Symbol::Act(59),
-    Symbol::Part(43),
-    Symbol::Gives(0),
-    // formula_or_term at !
-    Symbol::Line(53, 73, false),
-    Symbol::Keep(1),
-    Symbol::Take(61),
-    Symbol::Take(76),
-    Symbol::Part(47),
-    Symbol::Take(65),
-    Symbol::Part(47),
-    Symbol::Take(77),
-    Symbol::Act(64),
-    Symbol::Part(43),
-    Symbol::Gives(0),
-    // formula_or_term at #
-    Symbol::Line(53, 75, false),
-    Symbol::Keep(1),
-    Symbol::Take(61),
-    Symbol::Take(76),
-    Symbol::Part(47),
-    Symbol::Take(77),
-    Symbol::Act(65),
-    Symbol::Part(43),
-    Symbol::Gives(0),
-    // formula_or_term at (
-    Symbol::Line(53, 76, false),
-    Symbol::Part(53),
-    Symbol::Then(54, 55),
-    // formula_or_term
-    Symbol::Line(53, 0, false),
-    Symbol::Part(67),
-    Symbol::Part(58),
-    Symbol::Part(56),
-    // inside_formula at )
-    Symbol::Line(54, 77, false),
-    Symbol::Part(43),
-    Symbol::Gives(0),
-    // inside_term at )
-    Symbol::Line(55, 77, false),
-    Symbol::Part(58),
-    Symbol::Part(56),
-    // relation_or_none at =
-    Symbol::Line(56, 67, true),
-    Symbol::Part(57),
-    Symbol::Act(66),
-    Symbol::Part(43),
-    Symbol::Gives(0),
-    // relation_or_none at /=
-    Symbol::Line(56, 68, true),
-    Symbol::Part(57),
-    Symbol::Act(66),
-    Symbol::Part(43),
-    Symbol::Gives(0),
-    // relation_or_none at <
-    Symbol::Line(56, 69, true),
-    Symbol::Part(57),
-    Symbol::Act(66),
-    Symbol::Part(43),
-    Symbol::Gives(0),
-    // relation_or_none at <=
-    Symbol::Line(56, 70, true),
-    Symbol::Part(57),
-    Symbol::Act(66),
-    Symbol::Part(43),
-    Symbol::Gives(0),
-    // relation_or_none at >
-    Symbol::Line(56, 71, true),
-    Symbol::Part(57),
-    Symbol::Act(66),
-    Symbol::Part(43),
-    Symbol::Gives(0),
-    // relation_or_none at >=
-    Symbol::Line(56, 72, true),
-    Symbol::Part(57),
-    Symbol::Act(66),
-    Symbol::Part(43),
-    Symbol::Gives(0),
-    // relation_or_none at :
-    Symbol::Line(56, 55, true),
-    Symbol::Part(57),
-    Symbol::Act(66),
-    Symbol::Part(43),
-    Symbol::Gives(0),
-    // relation_or_none at /:
-    Symbol::Line(56, 56, true),
-    Symbol::Part(57),
-    Symbol::Act(66),
-    Symbol::Part(43),
-    Symbol::Gives(0),
-    // relation_or_none at <:
-    Symbol::Line(56, 57, true),
-    Symbol::Part(57),
-    Symbol::Act(66),
-    Symbol::Part(43),
-    Symbol::Gives(0),
-    // relation_or_none
-    Symbol::Line(56, 0, false),
-    Symbol::Gives(1),
-    // term
-    Symbol::Line(57, 0, false),
-    Symbol::Part(66),
-    Symbol::Part(58),
-    // term_tail at ..
-    Symbol::Line(58, 60, true),
-    Symbol::Part(64),
-    Symbol::Act(71),
-    // term_tail at \/
-    Symbol::Line(58, 58, true),
-    Symbol::Part(66),
-    Symbol::Act(71),
-    Symbol::Part(59),
-    // term_tail at /\
-    Symbol::Line(58, 59, true),
-    Symbol::Part(66),
-    Symbol::Act(71),
-    Symbol::Part(60),
-    // term_tail at *
-    Symbol::Line(58, 87, true),
-    Symbol::Part(66),
-    Symbol::Act(71),
-    Symbol::Part(61),
-    Symbol::Part(62),
-    Symbol::Part(63),
-    // term_tail at /
-    Symbol::Line(58, 88, true),
-    Symbol::Part(66),
-    Symbol::Act(71),
-    Symbol::Part(61),
-    Symbol::Part(62),
-    Symbol::Part(63),
-    // term_tail at mod
-    Symbol::Line(58, 46, true),
-    Symbol::Part(66),
-    Symbol::Act(71),
-    Symbol::Part(61),
-    Symbol::Part(62),
-    Symbol::Part(63),
-    // term_tail at +
-    Symbol::Line(58, 85, true),
-    Symbol::Part(65),
-    Symbol::Act(71),
-    Symbol::Part(62),
-    Symbol::Part(63),
-    // term_tail at -
-    Symbol::Line(58, 86, true),
-    Symbol::Part(65),
-    Symbol::Act(71),
-    Symbol::Part(62),
-    Symbol::Part(63),
-    // term_tail
-    Symbol::Line(58, 0, false),
-    // union_tail
-    Symbol::Line(59, 0, false),
-    Symbol::Part(117),
-    // intersection_tail
-    Symbol::Line(60, 0, false),
-    Symbol::Part(118),
-    // product_tail at *
-    Symbol::Line(61, 87, true),
-    Symbol::Part(66),
-    Symbol::Act(71),
-    Symbol::Part(61),
-    // product_tail at /
-    Symbol::Line(61, 88, true),
-    Symbol::Part(66),
-    Symbol::Act(71),
-    Symbol::Part(61),
-    // product_tail at mod
-    Symbol::Line(61, 46, true),
-    Symbol::Part(66),
-    Symbol::Act(71),
-    Symbol::Part(61),
-    // product_tail
-    Symbol::Line(61, 0, false),
-    // sum_tail at +
-    Symbol::Line(62, 85, true),
-    Symbol::Part(65),
-    Symbol::Act(71),
-    Symbol::Part(62),
-    // sum_tail at -
-    Symbol::Line(62, 86, true),
-    Symbol::Part(65),
-    Symbol::Act(71),
-    Symbol::Part(62),
-    // sum_tail
-    Symbol::Line(62, 0, false),
-    // range_tail
-    Symbol::Line(63, 0, false),
-    Symbol::Part(119),
-    // sum
-    Symbol::Line(64, 0, false),
-    Symbol::Part(65),
-    Symbol::Part(62),
-    // product
-    Symbol::Line(65, 0, false),
-    Symbol::Part(66),
-    Symbol::Part(61),
-    // factor at (
-    Symbol::Line(66, 76, false),
-    Symbol::Part(57),
-    Symbol::Take(77),
-    // factor
-    Symbol::Line(66, 0, false),
-    Symbol::Part(67),
-    // factor_start at name
-    Symbol::Line(67, 1, true),
-    Symbol::Act(69),
-    // factor_start at number
-    Symbol::Line(67, 2, true),
-    Symbol::Act(69),
-    // factor_start at TRUE
-    Symbol::Line(67, 34, true),
-    Symbol::Act(69),
-    // factor_start at FALSE
-    Symbol::Line(67, 35, true),
-    Symbol::Act(69),
-    // factor_start at MAXINT
-    Symbol::Line(67, 40, true),
-    Symbol::Act(69),
-    // factor_start at MININT
-    Symbol::Line(67, 41, true),
-    Symbol::Act(69),
-    // factor_start at NAT
-    Symbol::Line(67, 37, true),
-    Symbol::Act(69),
-    // factor_start at NAT1
-    Symbol::Line(67, 38, true),
-    Symbol::Act(69),
-    // factor_start at INT
-    Symbol::Line(67, 39, true),
-    Symbol::Act(69),
-    // factor_start at BOOL
-    Symbol::Line(67, 36, true),
-    Symbol::Act(69),
-    // factor_start at -
-    Symbol::Line(67, 86, true),
-    Symbol::Part(66),
-    Symbol::Act(70),
-    // factor_start at card
-    Symbol::Line(67, 47, true),
-    Symbol::Take(76),
-    Symbol::Part(57),
-    Symbol::Take(77),
-    Symbol::Act(72),
-    // factor_start at bool
-    Symbol::Line(67, 48, true),
-    Symbol::Take(76),
-    Symbol::Part(42),
-    Symbol::Take(77),
-    Symbol::Act(73),
-    // factor_start at {
-    Symbol::Line(67, 78, true),
-    Symbol::Act(67),
-    Symbol::Part(68),
-    Symbol::Act(74),
-    // set_end at }
-    Symbol::Line(68, 79, false),
-    // set_end
-    Symbol::Line(68, 0, false),
-    Symbol::Part(69),
-    Symbol::Take(79),
-    // terms
-    Symbol::Line(69, 0, false),
-    Symbol::Part(57),
-    Symbol::Act(68),
-    Symbol::Part(120),
-    // proofs
-    Symbol::Line(70, 0, false),
-    Symbol::Act(75),
-    Symbol::Part(121),
-    // obligation at INIT
-    Symbol::Line(71, 128, true),
-    Symbol::Part(72),
-    // obligation at START
-    Symbol::Line(71, 27, true),
-    Symbol::Part(72),
-    // obligation at OP
-    Symbol::Line(71, 129, true),
-    Symbol::Part(73),
-    // obligation at LOOP
-    Symbol::Line(71, 130, true),
-    Symbol::Part(73),
-    // obligation at MATCH
-    Symbol::Line(71, 131, true),
-    Symbol::Part(73),
-    // obligation at LIVE
-    Symbol::Line(71, 132, true),
-    Symbol::Take(55),
-    Symbol::Keep(1),
-    Symbol::Take(55),
-    Symbol::Part(122),
-    Symbol::Take(55),
-    Symbol::Keep(2),
-    Symbol::Act(78),
-    // of_owner at :
-    Symbol::Line(72, 55, false),
-    Symbol::Keep(1),
-    Symbol::Take(55),
-    Symbol::Keep(2),
-    Symbol::Act(77),
-    // of_part at :
-    Symbol::Line(73, 55, false),
-    Symbol::Keep(1),
-    Symbol::Take(55),
-    Symbol::Keep(1),
-    Symbol::Take(55),
-    Symbol::Keep(2),
-    Symbol::Act(78),
-    // node at HYP
-    Symbol::Line(74, 133, true),
-    Symbol::Keep(2),
-    Symbol::Act(79),
-    Symbol::Act(86),
-    // node at CONTRA
-    Symbol::Line(74, 134, true),
-    Symbol::Keep(2),
-    Symbol::Keep(2),
-    Symbol::Act(79),
-    Symbol::Act(87),
-    // node at EVAL
-    Symbol::Line(74, 135, true),
-    Symbol::Part(75),
-    // node at EVALNOT
-    Symbol::Line(74, 136, true),
-    Symbol::Keep(2),
-    Symbol::Act(79),
-    Symbol::Act(86),
-    // node at REFL
-    Symbol::Line(74, 137, true),
-    Symbol::Part(75),
-    // node at LIN
-    Symbol::Line(74, 138, true),
-    Symbol::Take(80),
-    Symbol::Act(81),
-    Symbol::Part(86),
-    Symbol::Act(82),
-    Symbol::Part(123),
-    Symbol::Take(81),
-    Symbol::Act(79),
-    Symbol::Act(88),
-    // node at CUT
-    Symbol::Line(74, 139, true),
-    Symbol::Take(80),
-    Symbol::Part(42),
-    Symbol::Take(81),
-    Symbol::Part(83),
-    Symbol::Act(89),
-    // node at CASES
-    Symbol::Line(74, 140, true),
-    Symbol::Take(80),
-    Symbol::Part(42),
-    Symbol::Take(81),
-    Symbol::Part(83),
-    Symbol::Act(89),
-    // node at ANDR
-    Symbol::Line(74, 141, true),
-    Symbol::Part(77),
-    // node at OR1
-    Symbol::Line(74, 142, true),
-    Symbol::Part(76),
-    // node at OR2
-    Symbol::Line(74, 143, true),
-    Symbol::Part(76),
-    // node at IMPR
-    Symbol::Line(74, 144, true),
-    Symbol::Part(76),
-    // node at NOTR
-    Symbol::Line(74, 145, true),
-    Symbol::Part(76),
-    // node at IFFR
-    Symbol::Line(74, 146, true),
-    Symbol::Part(77),
-    // node at ALLR
-    Symbol::Line(74, 147, true),
-    Symbol::Part(76),
-    // node at EXR
-    Symbol::Line(74, 148, true),
-    Symbol::Part(80),
-    // node at ANDL
-    Symbol::Line(74, 149, true),
-    Symbol::Part(78),
-    // node at ORL
-    Symbol::Line(74, 150, true),
-    Symbol::Part(79),
-    // node at IMPL
-    Symbol::Line(74, 151, true),
-    Symbol::Part(79),
-    // node at IFFL
-    Symbol::Line(74, 152, true),
-    Symbol::Part(78),
-    // node at NOTL
-    Symbol::Line(74, 153, true),
-    Symbol::Part(78),
-    // node at ALLL
-    Symbol::Line(74, 154, true),
-    Symbol::Keep(2),
-    Symbol::Take(80),
-    Symbol::Part(57),
-    Symbol::Take(81),
-    Symbol::Part(82),
-    Symbol::Act(92),
-    // node at EXL
-    Symbol::Line(74, 155, true),
-    Symbol::Part(78),
-    // node at EQ
-    Symbol::Line(74, 156, true),
-    Symbol::Part(78),
-    // node at EQIN
-    Symbol::Line(74, 157, true),
-    Symbol::Keep(2),
-    Symbol::Keep(2),
-    Symbol::Part(82),
-    Symbol::Act(87),
-    // node at BOOLCASES
-    Symbol::Line(74, 158, true),
-    Symbol::Take(80),
-    Symbol::Part(57),
-    Symbol::Take(81),
-    Symbol::Part(83),
-    Symbol::Act(90),
-    // node at BOOLR
-    Symbol::Line(74, 159, true),
-    Symbol::Part(76),
-    // node at BOOLL
-    Symbol::Line(74, 160, true),
-    Symbol::Part(78),
-    // node at ELEMS
-    Symbol::Line(74, 161, true),
-    Symbol::Take(80),
-    Symbol::Part(57),
-    Symbol::Take(81),
-    Symbol::Part(85),
-    Symbol::Act(90),
-    // node at SPLIT
-    Symbol::Line(74, 162, true),
-    Symbol::Take(80),
-    Symbol::Part(57),
-    Symbol::Take(81),
-    Symbol::Take(80),
-    Symbol::Part(57),
-    Symbol::Take(81),
-    Symbol::Part(84),
-    Symbol::Act(91),
-    // node at EQLE
-    Symbol::Line(74, 163, true),
-    Symbol::Part(77),
-    // node at RNG
-    Symbol::Line(74, 164, true),
-    Symbol::Part(77),
-    // node at RNGL
-    Symbol::Line(74, 165, true),
-    Symbol::Part(78),
-    // node at DIVMOD
-    Symbol::Line(74, 166, true),
-    Symbol::Take(80),
-    Symbol::Part(57),
-    Symbol::Take(81),
-    Symbol::Keep(2),
-    Symbol::Part(82),
-    Symbol::Act(93),
-    // node at MULSIGN
-    Symbol::Line(74, 167, true),
-    Symbol::Take(80),
-    Symbol::Part(57),
-    Symbol::Take(81),
-    Symbol::Take(80),
-    Symbol::Part(57),
-    Symbol::Take(81),
-    Symbol::Part(84),
-    Symbol::Act(91),
-    // node at MEMBER
-    Symbol::Line(74, 168, true),
-    Symbol::Part(76),
-    // node at MEMBERL
-    Symbol::Line(74, 169, true),
-    Symbol::Part(78),
-    // node at SUBSET
-    Symbol::Line(74, 170, true),
-    Symbol::Part(76),
-    // node at SUBSETL
-    Symbol::Line(74, 171, true),
-    Symbol::Keep(2),
-    Symbol::Take(80),
-    Symbol::Part(57),
-    Symbol::Take(81),
-    Symbol::Part(82),
-    Symbol::Act(92),
-    // node at EXT
-    Symbol::Line(74, 172, true),
-    Symbol::Part(77),
-    // node at CARDPOS
-    Symbol::Line(74, 173, true),
-    Symbol::Part(80),
-    // node at CARDADD
-    Symbol::Line(74, 174, true),
-    Symbol::Part(81),
-    // node at CARDDEL
-    Symbol::Line(74, 175, true),
-    Symbol::Part(81),
-    // node at CARDSUB
-    Symbol::Line(74, 176, true),
-    Symbol::Part(81),
-    // no_premise
-    Symbol::Line(75, 0, false),
-    Symbol::Act(79),
-    Symbol::Act(85),
-    // one_premise
-    Symbol::Line(76, 0, false),
-    Symbol::Part(82),
-    Symbol::Act(85),
-    // two_premises
-    Symbol::Line(77, 0, false),
-    Symbol::Part(83),
-    Symbol::Act(85),
-    // hypothesis_one_premise at number
-    Symbol::Line(78, 2, true),
-    Symbol::Part(82),
-    Symbol::Act(86),
-    // hypothesis_two_premises at number
-    Symbol::Line(79, 2, true),
-    Symbol::Part(83),
-    Symbol::Act(86),
-    // term_one_premise at [
-    Symbol::Line(80, 80, false),
-    Symbol::Part(57),
-    Symbol::Take(81),
-    Symbol::Part(82),
-    Symbol::Act(90),
-    // two_terms_two_premises at [
-    Symbol::Line(81, 80, false),
-    Symbol::Part(57),
-    Symbol::Take(81),
-    Symbol::Take(80),
-    Symbol::Part(57),
-    Symbol::Take(81),
-    Symbol::Part(83),
-    Symbol::Act(91),
-    // one_node at (
-    Symbol::Line(82, 76, false),
-    Symbol::Act(79),
-    Symbol::Part(74),
-    Symbol::Act(80),
-    Symbol::Take(77),
-    // two_nodes at (
-    Symbol::Line(83, 76, false),
-    Symbol::Act(79),
-    Symbol::Part(74),
-    Symbol::Act(80),
-    Symbol::Take(62),
-    Symbol::Part(74),
-    Symbol::Act(80),
-    Symbol::Take(77),
-    // three_nodes at (
-    Symbol::Line(84, 76, false),
-    Symbol::Act(79),
-    Symbol::Part(74),
-    Symbol::Act(80),
-    Symbol::Take(62),
-    Symbol::Part(74),
-    Symbol::Act(80),
-    Symbol::Take(62),
-    Symbol::Part(74),
-    Symbol::Act(80),
-    Symbol::Take(77),
-    // some_nodes at (
-    Symbol::Line(85, 76, false),
-    Symbol::Act(79),
-    Symbol::Part(74),
-    Symbol::Act(80),
-    Symbol::Part(124),
-    Symbol::Take(77),
-    // row at number
-    Symbol::Line(86, 2, true),
-    Symbol::Take(87),
-    Symbol::Part(125),
-    // before_proofs_1 at PROOF
-    Symbol::Line(87, 31, false),
-    // before_proofs_1 at finish
-    Symbol::Line(87, 3, false),
-    // text_1 at MACHINE
-    Symbol::Line(88, 4, false),
-    Symbol::Keep(1),
-    Symbol::Act(5),
-    Symbol::Part(89),
-    Symbol::Part(91),
-    Symbol::Part(93),
-    Symbol::Part(94),
-    Symbol::Part(96),
-    Symbol::Take(13),
-    Symbol::Act(1),
-    Symbol::Part(5),
-    // text_1
-    Symbol::Line(88, 0, false),
-    Symbol::Part(6),
-    // machine_1 at SEES
-    Symbol::Line(89, 5, false),
-    Symbol::Part(11),
-    Symbol::Act(6),
-    // machine_1
-    Symbol::Line(89, 0, false),
-    // machine_2 at ;
-    Symbol::Line(90, 63, false),
-    Symbol::Part(12),
-    Symbol::Part(90),
-    // machine_2
-    Symbol::Line(90, 0, false),
-    // machine_3 at SETS
-    Symbol::Line(91, 6, false),
-    Symbol::Part(12),
-    Symbol::Part(90),
-    // machine_3
-    Symbol::Line(91, 0, false),
-    // machine_4 at &
-    Symbol::Line(92, 64, false),
-    Symbol::Part(13),
-    Symbol::Part(92),
-    // machine_4
-    Symbol::Line(92, 0, false),
-    // machine_5 at CONSTANTS
-    Symbol::Line(93, 7, false),
-    Symbol::Part(11),
-    Symbol::Act(8),
-    Symbol::Take(8),
-    Symbol::Part(13),
-    Symbol::Part(92),
-    // machine_5
-    Symbol::Line(93, 0, false),
-    // machine_6 at VARIABLES
-    Symbol::Line(94, 9, false),
-    Symbol::Part(11),
-    Symbol::Take(10),
-    Symbol::Part(42),
-    Symbol::Take(11),
-    Symbol::Part(20),
-    Symbol::Act(10),
-    // machine_6
-    Symbol::Line(94, 0, false),
-    // machine_7 at ;
-    Symbol::Line(95, 63, false),
-    Symbol::Part(15),
-    Symbol::Part(95),
-    // machine_7
-    Symbol::Line(95, 0, false),
-    // machine_8 at OPERATIONS
-    Symbol::Line(96, 12, false),
-    Symbol::Part(15),
-    Symbol::Part(95),
-    // machine_8
-    Symbol::Line(96, 0, false),
-    // names_1 at ,
-    Symbol::Line(97, 62, false),
-    Symbol::Keep(1),
-    Symbol::Act(14),
-    Symbol::Part(97),
-    // names_1
-    Symbol::Line(97, 0, false),
-    // more_results_1 at ,
-    Symbol::Line(98, 62, false),
-    Symbol::Keep(1),
-    Symbol::Act(18),
-    Symbol::Part(98),
-    // more_results_1
-    Symbol::Line(98, 0, false),
-    // substitution_1 at ||
-    Symbol::Line(99, 53, false),
-    Symbol::Part(21),
-    Symbol::Act(21),
-    Symbol::Part(99),
-    // substitution_1
-    Symbol::Line(99, 0, false),
-    // simple_1 at OR
-    Symbol::Line(100, 20, false),
-    Symbol::Part(20),
-    Symbol::Act(28),
-    Symbol::Part(100),
-    // simple_1
-    Symbol::Line(100, 0, false),
-    // channels_1 at ;
-    Symbol::Line(101, 63, false),
-    Symbol::Part(30),
-    Symbol::Part(101),
-    // channels_1
-    Symbol::Line(101, 0, false),
-    // channel_1 at WHERE
-    Symbol::Line(102, 22, false),
-    Symbol::Part(42),
-    Symbol::Act(19),
-    // channel_1
-    Symbol::Line(102, 0, false),
-    Symbol::Act(20),
-    // controller_1 at MACHINES
-    Symbol::Line(103, 26, false),
-    Symbol::Part(11),
-    Symbol::Act(38),
-    // controller_1
-    Symbol::Line(103, 0, false),
-    // controller_2 at (
-    Symbol::Line(104, 76, false),
-    Symbol::Part(69),
-    Symbol::Take(77),
-    // controller_2
-    Symbol::Line(104, 0, false),
-    // controller_3 at ;
-    Symbol::Line(105, 63, false),
-    Symbol::Part(33),
-    Symbol::Part(105),
-    // controller_3
-    Symbol::Line(105, 0, false),
-    // definition_1 at (
-    Symbol::Line(106, 76, false),
-    Symbol::Part(34),
-    Symbol::Take(77),
-    // definition_1
-    Symbol::Line(106, 0, false),
-    // definition_2 at INV
-    Symbol::Line(107, 29, false),
-    Symbol::Take(76),
-    Symbol::Part(42),
-    Symbol::Take(77),
-    Symbol::Act(19),
-    // definition_2
-    Symbol::Line(107, 0, false),
-    Symbol::Act(20),
-    // parameters_1 at ,
-    Symbol::Line(108, 62, false),
-    Symbol::Part(35),
-    Symbol::Act(41),
-    Symbol::Part(108),
-    // parameters_1
-    Symbol::Line(108, 0, false),
-    // parameter_1 at :
-    Symbol::Line(109, 55, false),
-    Symbol::Part(24),
-    Symbol::Act(42),
-    // parameter_1 at <:
-    Symbol::Line(109, 57, false),
-    Symbol::Part(24),
-    Symbol::Act(43),
-    // process_tail_1 at []
-    Symbol::Line(110, 82, false),
-    Symbol::Part(38),
-    Symbol::Act(46),
-    Symbol::Part(110),
-    // process_tail_1
-    Symbol::Line(110, 0, false),
-    // process_tail_2 at |~|
-    Symbol::Line(111, 83, false),
-    Symbol::Part(38),
-    Symbol::Act(46),
-    Symbol::Part(111),
-    // process_tail_2
-    Symbol::Line(111, 0, false),
-    // step_rest_1 at !
-    Symbol::Line(112, 73, false),
-    Symbol::Take(76),
-    Symbol::Part(69),
-    Symbol::Take(77),
-    // step_rest_1
-    Symbol::Line(112, 0, false),
-    // step_rest_2 at ?
-    Symbol::Line(113, 74, false),
-    Symbol::Take(76),
-    Symbol::Part(11),
-    Symbol::Take(77),
-    // step_rest_2
-    Symbol::Line(113, 0, false),
-    Symbol::Act(13),
-    // and_tail_1 at &
-    Symbol::Line(114, 64, false),
-    Symbol::Part(49),
-    Symbol::Act(60),
-    Symbol::Part(114),
-    // and_tail_1
-    Symbol::Line(114, 0, false),
-    // or_tail_1 at or
-    Symbol::Line(115, 44, false),
-    Symbol::Part(49),
-    Symbol::Act(61),
-    Symbol::Part(115),
-    // or_tail_1
-    Symbol::Line(115, 0, false),
-    // implies_tail_1 at =>
-    Symbol::Line(116, 65, false),
-    Symbol::Part(47),
-    Symbol::Act(62),
-    // implies_tail_1
-    Symbol::Line(116, 0, false),
-    // union_tail_1 at \/
-    Symbol::Line(117, 58, true),
-    Symbol::Part(66),
-    Symbol::Act(71),
-    Symbol::Part(117),
-    // union_tail_1
-    Symbol::Line(117, 0, false),
-    // intersection_tail_1 at /\
-    Symbol::Line(118, 59, true),
-    Symbol::Part(66),
-    Symbol::Act(71),
-    Symbol::Part(118),
-    // intersection_tail_1
-    Symbol::Line(118, 0, false),
-    // range_tail_1 at ..
-    Symbol::Line(119, 60, true),
-    Symbol::Part(64),
-    Symbol::Act(71),
-    // range_tail_1
-    Symbol::Line(119, 0, false),
-    // terms_1 at ,
-    Symbol::Line(120, 62, false),
-    Symbol::Part(57),
-    Symbol::Act(68),
-    Symbol::Part(120),
-    // terms_1
-    Symbol::Line(120, 0, false),
-    // proofs_1 at PROOF
-    Symbol::Line(121, 31, false),
-    Symbol::Part(71),
-    Symbol::Part(74),
-    Symbol::Take(13),
-    Symbol::Act(76),
-    Symbol::Part(121),
-    // proofs_1
-    Symbol::Line(121, 0, false),
-    // obligation_1 at name
-    Symbol::Line(122, 1, true),
-    // obligation_1 at INITIALISATION
-    Symbol::Line(122, 11, true),
-    // node_1 at ,
-    Symbol::Line(123, 62, false),
-    Symbol::Part(86),
-    Symbol::Act(82),
-    Symbol::Part(123),
-    // node_1
-    Symbol::Line(123, 0, false),
-    // some_nodes_1 at ,
-    Symbol::Line(124, 62, false),
-    Symbol::Part(74),
-    Symbol::Act(80),
-    Symbol::Part(124),
-    // some_nodes_1
-    Symbol::Line(124, 0, false),
-    // row_1 at -
-    Symbol::Line(125, 86, false),
-    Symbol::Keep(2),
-    Symbol::Act(84),
-    // row_1 at number
-    Symbol::Line(125, 2, true),
-    Symbol::Act(83),
+    Symbol::Line(1, 0, false), // whole
+    Symbol::Part(4), // whole: text
+    Symbol::Part(70), // whole: proofs
+    Symbol::Take(3), // whole: finish
+    Symbol::Line(2, 0, false), // before_proofs
+    Symbol::Part(4), // before_proofs: text
+    Symbol::Part(87), // before_proofs: before_proofs_1
+    Symbol::Line(3, 0, false), // only_proofs
+    Symbol::Part(70), // only_proofs: proofs
+    Symbol::Take(3), // only_proofs: finish
+    Symbol::Line(4, 0, false), // text
+    Symbol::Act(0), // text: @text
+    Symbol::Part(88), // text: text_1
+    Symbol::Line(5, 4, false), // more_text at MACHINE
+    Symbol::Keep(1), // more_text at MACHINE: ^name
+    Symbol::Act(5), // more_text at MACHINE: @machine
+    Symbol::Part(89), // more_text at MACHINE: machine_1
+    Symbol::Part(91), // more_text at MACHINE: machine_3
+    Symbol::Part(93), // more_text at MACHINE: machine_5
+    Symbol::Part(94), // more_text at MACHINE: machine_6
+    Symbol::Part(96), // more_text at MACHINE: machine_8
+    Symbol::Take(13), // more_text at MACHINE: END
+    Symbol::Act(1), // more_text at MACHINE: @add_machine
+    Symbol::Part(5), // more_text at MACHINE: more_text
+    Symbol::Line(5, 24, false), // more_text at CHANNELS
+    Symbol::Act(35), // more_text at CHANNELS: @no_channels
+    Symbol::Part(30), // more_text at CHANNELS: channel
+    Symbol::Part(101), // more_text at CHANNELS: channels_1
+    Symbol::Take(13), // more_text at CHANNELS: END
+    Symbol::Act(2), // more_text at CHANNELS: @add_channels
+    Symbol::Part(7), // more_text at CHANNELS: controllers
+    Symbol::Line(5, 25, false), // more_text at CONTROLLER
+    Symbol::Keep(1), // more_text at CONTROLLER: ^name
+    Symbol::Act(37), // more_text at CONTROLLER: @controller
+    Symbol::Part(103), // more_text at CONTROLLER: controller_1
+    Symbol::Take(27), // more_text at CONTROLLER: START
+    Symbol::Keep(1), // more_text at CONTROLLER: ^name
+    Symbol::Act(67), // more_text at CONTROLLER: @no_terms
+    Symbol::Part(104), // more_text at CONTROLLER: controller_2
+    Symbol::Act(39), // more_text at CONTROLLER: @start
+    Symbol::Take(28), // more_text at CONTROLLER: PROCESSES
+    Symbol::Part(33), // more_text at CONTROLLER: definition
+    Symbol::Part(105), // more_text at CONTROLLER: controller_3
+    Symbol::Take(13), // more_text at CONTROLLER: END
+    Symbol::Act(3), // more_text at CONTROLLER: @add_controller
+    Symbol::Part(8), // more_text at CONTROLLER: more_controllers
+    Symbol::Line(5, 0, false), // more_text
+    Symbol::Line(6, 24, false), // system_text at CHANNELS
+    Symbol::Act(35), // system_text at CHANNELS: @no_channels
+    Symbol::Part(30), // system_text at CHANNELS: channel
+    Symbol::Part(101), // system_text at CHANNELS: channels_1
+    Symbol::Take(13), // system_text at CHANNELS: END
+    Symbol::Act(2), // system_text at CHANNELS: @add_channels
+    Symbol::Part(7), // system_text at CHANNELS: controllers
+    Symbol::Line(6, 0, false), // system_text
+    Symbol::Part(7), // system_text: controllers
+    Symbol::Line(7, 0, false), // controllers
+    Symbol::Part(32), // controllers: controller
+    Symbol::Act(3), // controllers: @add_controller
+    Symbol::Part(8), // controllers: more_controllers
+    Symbol::Line(8, 25, false), // more_controllers at CONTROLLER
+    Symbol::Keep(1), // more_controllers at CONTROLLER: ^name
+    Symbol::Act(37), // more_controllers at CONTROLLER: @controller
+    Symbol::Part(103), // more_controllers at CONTROLLER: controller_1
+    Symbol::Take(27), // more_controllers at CONTROLLER: START
+    Symbol::Keep(1), // more_controllers at CONTROLLER: ^name
+    Symbol::Act(67), // more_controllers at CONTROLLER: @no_terms
+    Symbol::Part(104), // more_controllers at CONTROLLER: controller_2
+    Symbol::Act(39), // more_controllers at CONTROLLER: @start
+    Symbol::Take(28), // more_controllers at CONTROLLER: PROCESSES
+    Symbol::Part(33), // more_controllers at CONTROLLER: definition
+    Symbol::Part(105), // more_controllers at CONTROLLER: controller_3
+    Symbol::Take(13), // more_controllers at CONTROLLER: END
+    Symbol::Act(3), // more_controllers at CONTROLLER: @add_controller
+    Symbol::Part(8), // more_controllers at CONTROLLER: more_controllers
+    Symbol::Line(8, 0, false), // more_controllers
+    Symbol::Part(9), // more_controllers: system
+    Symbol::Line(9, 30, false), // system at SYSTEM
+    Symbol::Part(11), // system at SYSTEM: names
+    Symbol::Take(13), // system at SYSTEM: END
+    Symbol::Act(4), // system at SYSTEM: @system
+    Symbol::Line(10, 4, false), // machine at MACHINE
+    Symbol::Keep(1), // machine at MACHINE: ^name
+    Symbol::Act(5), // machine at MACHINE: @machine
+    Symbol::Part(89), // machine at MACHINE: machine_1
+    Symbol::Part(91), // machine at MACHINE: machine_3
+    Symbol::Part(93), // machine at MACHINE: machine_5
+    Symbol::Part(94), // machine at MACHINE: machine_6
+    Symbol::Part(96), // machine at MACHINE: machine_8
+    Symbol::Take(13), // machine at MACHINE: END
+    Symbol::Line(11, 0, false), // names
+    Symbol::Act(13), // names: @no_names
+    Symbol::Keep(1), // names: ^name
+    Symbol::Act(14), // names: @append_name
+    Symbol::Part(97), // names: names_1
+    Symbol::Line(12, 1, true), // set at name
+    Symbol::Take(67), // set at name: =
+    Symbol::Take(78), // set at name: {
+    Symbol::Part(11), // set at name: names
+    Symbol::Take(79), // set at name: }
+    Symbol::Act(7), // set at name: @set
+    Symbol::Line(13, 1, true), // property at name
+    Symbol::Take(67), // property at name: =
+    Symbol::Part(14), // property at name: literal
+    Symbol::Act(9), // property at name: @property
+    Symbol::Line(14, 86, false), // literal at -
+    Symbol::Keep(2), // literal at -: ^number
+    Symbol::Act(16), // literal at -: @minus_literal
+    Symbol::Line(14, 2, true), // literal at number
+    Symbol::Act(15), // literal at number: @literal
+    Symbol::Line(14, 40, true), // literal at MAXINT
+    Symbol::Act(15), // literal at MAXINT: @literal
+    Symbol::Line(14, 41, true), // literal at MININT
+    Symbol::Act(15), // literal at MININT: @literal
+    Symbol::Line(15, 1, true), // operation at name
+    Symbol::Part(16), // operation at name: operation_rest
+    Symbol::Line(16, 62, false), // operation_rest at ,
+    Symbol::Act(17), // operation_rest at ,: @first_result
+    Symbol::Keep(1), // operation_rest at ,: ^name
+    Symbol::Act(18), // operation_rest at ,: @append_result
+    Symbol::Part(17), // operation_rest at ,: more_results
+    Symbol::Take(54), // operation_rest at ,: <--
+    Symbol::Keep(1), // operation_rest at ,: ^name
+    Symbol::Part(18), // operation_rest at ,: signature
+    Symbol::Act(12), // operation_rest at ,: @operation_results
+    Symbol::Line(16, 54, false), // operation_rest at <--
+    Symbol::Act(17), // operation_rest at <--: @first_result
+    Symbol::Keep(1), // operation_rest at <--: ^name
+    Symbol::Part(18), // operation_rest at <--: signature
+    Symbol::Act(12), // operation_rest at <--: @operation_results
+    Symbol::Line(16, 0, false), // operation_rest
+    Symbol::Part(18), // operation_rest: signature
+    Symbol::Act(11), // operation_rest: @operation
+    Symbol::Line(17, 0, false), // more_results
+    Symbol::Part(98), // more_results: more_results_1
+    Symbol::Line(18, 76, false), // signature at (
+    Symbol::Part(11), // signature at (: names
+    Symbol::Take(77), // signature at (: )
+    Symbol::Take(67), // signature at (: =
+    Symbol::Part(19), // signature at (: body
+    Symbol::Line(18, 67, false), // signature at =
+    Symbol::Act(13), // signature at =: @no_names
+    Symbol::Part(19), // signature at =: body
+    Symbol::Line(19, 14, false), // body at PRE
+    Symbol::Part(42), // body at PRE: formula
+    Symbol::Act(19), // body at PRE: @some_condition
+    Symbol::Take(15), // body at PRE: THEN
+    Symbol::Part(20), // body at PRE: substitution
+    Symbol::Take(13), // body at PRE: END
+    Symbol::Line(19, 0, false), // body
+    Symbol::Act(20), // body: @no_condition
+    Symbol::Part(20), // body: substitution
+    Symbol::Line(20, 0, false), // substitution
+    Symbol::Part(21), // substitution: simple
+    Symbol::Part(99), // substitution: substitution_1
+    Symbol::Line(21, 42, false), // simple at skip
+    Symbol::Act(22), // simple at skip: @skip
+    Symbol::Line(21, 1, true), // simple at name
+    Symbol::Part(22), // simple at name: simple_rest
+    Symbol::Line(21, 23, false), // simple at BEGIN
+    Symbol::Part(20), // simple at BEGIN: substitution
+    Symbol::Take(13), // simple at BEGIN: END
+    Symbol::Line(21, 16, false), // simple at IF
+    Symbol::Part(42), // simple at IF: formula
+    Symbol::Take(15), // simple at IF: THEN
+    Symbol::Part(20), // simple at IF: substitution
+    Symbol::Part(23), // simple at IF: if_rest
+    Symbol::Line(21, 19, false), // simple at CHOICE
+    Symbol::Act(27), // simple at CHOICE: @no_sides
+    Symbol::Part(20), // simple at CHOICE: substitution
+    Symbol::Act(28), // simple at CHOICE: @append_side
+    Symbol::Take(20), // simple at CHOICE: OR
+    Symbol::Part(20), // simple at CHOICE: substitution
+    Symbol::Act(28), // simple at CHOICE: @append_side
+    Symbol::Part(100), // simple at CHOICE: simple_1
+    Symbol::Take(13), // simple at CHOICE: END
+    Symbol::Act(29), // simple at CHOICE: @choice
+    Symbol::Line(21, 21, false), // simple at ANY
+    Symbol::Keep(1), // simple at ANY: ^name
+    Symbol::Take(22), // simple at ANY: WHERE
+    Symbol::Part(42), // simple at ANY: formula
+    Symbol::Take(15), // simple at ANY: THEN
+    Symbol::Part(20), // simple at ANY: substitution
+    Symbol::Take(13), // simple at ANY: END
+    Symbol::Act(30), // simple at ANY: @any
+    Symbol::Line(22, 51, false), // simple_rest at :=
+    Symbol::Part(57), // simple_rest at :=: term
+    Symbol::Act(23), // simple_rest at :=: @assign
+    Symbol::Line(22, 52, false), // simple_rest at ::
+    Symbol::Part(24), // simple_rest at ::: domain
+    Symbol::Act(24), // simple_rest at ::: @among
+    Symbol::Line(23, 17, false), // if_rest at ELSIF
+    Symbol::Part(42), // if_rest at ELSIF: formula
+    Symbol::Take(15), // if_rest at ELSIF: THEN
+    Symbol::Part(20), // if_rest at ELSIF: substitution
+    Symbol::Part(23), // if_rest at ELSIF: if_rest
+    Symbol::Act(25), // if_rest at ELSIF: @if
+    Symbol::Line(23, 18, false), // if_rest at ELSE
+    Symbol::Part(20), // if_rest at ELSE: substitution
+    Symbol::Take(13), // if_rest at ELSE: END
+    Symbol::Act(25), // if_rest at ELSE: @if
+    Symbol::Line(23, 13, false), // if_rest at END
+    Symbol::Act(26), // if_rest at END: @if_without_else
+    Symbol::Line(24, 37, true), // domain at NAT
+    Symbol::Act(31), // domain at NAT: @named_domain
+    Symbol::Line(24, 38, true), // domain at NAT1
+    Symbol::Act(31), // domain at NAT1: @named_domain
+    Symbol::Line(24, 39, true), // domain at INT
+    Symbol::Act(31), // domain at INT: @named_domain
+    Symbol::Line(24, 36, true), // domain at BOOL
+    Symbol::Act(31), // domain at BOOL: @named_domain
+    Symbol::Line(24, 1, true), // domain at name
+    Symbol::Part(25), // domain at name: domain_rest
+    Symbol::Line(24, 0, false), // domain
+    Symbol::Part(26), // domain: other_bound
+    Symbol::Take(60), // domain: ..
+    Symbol::Part(27), // domain: bound
+    Symbol::Act(32), // domain: @range
+    Symbol::Line(25, 60, false), // domain_rest at ..
+    Symbol::Act(33), // domain_rest at ..: @bound
+    Symbol::Part(27), // domain_rest at ..: bound
+    Symbol::Act(32), // domain_rest at ..: @range
+    Symbol::Line(25, 0, false), // domain_rest
+    Symbol::Act(31), // domain_rest: @named_domain
+    Symbol::Line(26, 86, false), // other_bound at -
+    Symbol::Part(28), // other_bound at -: plain_bound
+    Symbol::Act(34), // other_bound at -: @minus_bound
+    Symbol::Line(26, 2, true), // other_bound at number
+    Symbol::Act(33), // other_bound at number: @bound
+    Symbol::Line(26, 40, true), // other_bound at MAXINT
+    Symbol::Act(33), // other_bound at MAXINT: @bound
+    Symbol::Line(26, 41, true), // other_bound at MININT
+    Symbol::Act(33), // other_bound at MININT: @bound
+    Symbol::Line(27, 86, false), // bound at -
+    Symbol::Part(28), // bound at -: plain_bound
+    Symbol::Act(34), // bound at -: @minus_bound
+    Symbol::Line(27, 0, false), // bound
+    Symbol::Part(28), // bound: plain_bound
+    Symbol::Line(28, 2, true), // plain_bound at number
+    Symbol::Act(33), // plain_bound at number: @bound
+    Symbol::Line(28, 40, true), // plain_bound at MAXINT
+    Symbol::Act(33), // plain_bound at MAXINT: @bound
+    Symbol::Line(28, 41, true), // plain_bound at MININT
+    Symbol::Act(33), // plain_bound at MININT: @bound
+    Symbol::Line(28, 1, true), // plain_bound at name
+    Symbol::Act(33), // plain_bound at name: @bound
+    Symbol::Line(29, 24, false), // channels at CHANNELS
+    Symbol::Act(35), // channels at CHANNELS: @no_channels
+    Symbol::Part(30), // channels at CHANNELS: channel
+    Symbol::Part(101), // channels at CHANNELS: channels_1
+    Symbol::Take(13), // channels at CHANNELS: END
+    Symbol::Line(30, 1, true), // channel at name
+    Symbol::Take(76), // channel at name: (
+    Symbol::Part(31), // channel at name: names_end
+    Symbol::Part(102), // channel at name: channel_1
+    Symbol::Act(36), // channel at name: @append_channel
+    Symbol::Line(31, 77, false), // names_end at )
+    Symbol::Act(13), // names_end at ): @no_names
+    Symbol::Line(31, 0, false), // names_end
+    Symbol::Part(11), // names_end: names
+    Symbol::Take(77), // names_end: )
+    Symbol::Line(32, 25, false), // controller at CONTROLLER
+    Symbol::Keep(1), // controller at CONTROLLER: ^name
+    Symbol::Act(37), // controller at CONTROLLER: @controller
+    Symbol::Part(103), // controller at CONTROLLER: controller_1
+    Symbol::Take(27), // controller at CONTROLLER: START
+    Symbol::Keep(1), // controller at CONTROLLER: ^name
+    Symbol::Act(67), // controller at CONTROLLER: @no_terms
+    Symbol::Part(104), // controller at CONTROLLER: controller_2
+    Symbol::Act(39), // controller at CONTROLLER: @start
+    Symbol::Take(28), // controller at CONTROLLER: PROCESSES
+    Symbol::Part(33), // controller at CONTROLLER: definition
+    Symbol::Part(105), // controller at CONTROLLER: controller_3
+    Symbol::Take(13), // controller at CONTROLLER: END
+    Symbol::Line(33, 1, true), // definition at name
+    Symbol::Act(40), // definition at name: @no_parameters
+    Symbol::Part(106), // definition at name: definition_1
+    Symbol::Part(107), // definition at name: definition_2
+    Symbol::Take(67), // definition at name: =
+    Symbol::Part(36), // definition at name: process
+    Symbol::Act(44), // definition at name: @definition
+    Symbol::Line(34, 0, false), // parameters
+    Symbol::Part(35), // parameters: parameter
+    Symbol::Act(41), // parameters: @append_parameter
+    Symbol::Part(108), // parameters: parameters_1
+    Symbol::Line(35, 1, true), // parameter at name
+    Symbol::Part(109), // parameter at name: parameter_1
+    Symbol::Line(36, 0, false), // process
+    Symbol::Part(38), // process: step
+    Symbol::Part(37), // process: process_tail
+    Symbol::Line(37, 82, false), // process_tail at []
+    Symbol::Part(38), // process_tail at []: step
+    Symbol::Act(45), // process_tail at []: @first_two
+    Symbol::Part(110), // process_tail at []: process_tail_1
+    Symbol::Act(47), // process_tail at []: @external
+    Symbol::Line(37, 83, false), // process_tail at |~|
+    Symbol::Part(38), // process_tail at |~|: step
+    Symbol::Act(45), // process_tail at |~|: @first_two
+    Symbol::Part(111), // process_tail at |~|: process_tail_2
+    Symbol::Act(48), // process_tail at |~|: @internal
+    Symbol::Line(37, 0, false), // process_tail
+    Symbol::Line(38, 32, true), // step at STOP
+    Symbol::Act(49), // step at STOP: @stop
+    Symbol::Line(38, 33, true), // step at SKIP
+    Symbol::Act(50), // step at SKIP: @skip_process
+    Symbol::Line(38, 76, false), // step at (
+    Symbol::Part(36), // step at (: process
+    Symbol::Take(77), // step at (: )
+    Symbol::Line(38, 16, true), // step at IF
+    Symbol::Part(42), // step at IF: formula
+    Symbol::Take(15), // step at IF: THEN
+    Symbol::Part(36), // step at IF: process
+    Symbol::Take(18), // step at IF: ELSE
+    Symbol::Part(36), // step at IF: process
+    Symbol::Take(13), // step at IF: END
+    Symbol::Act(51), // step at IF: @process_if
+    Symbol::Line(38, 1, true), // step at name
+    Symbol::Part(39), // step at name: step_rest
+    Symbol::Line(39, 73, false), // step_rest at !
+    Symbol::Take(76), // step_rest at !: (
+    Symbol::Act(67), // step_rest at !: @no_terms
+    Symbol::Part(40), // step_rest at !: terms_end
+    Symbol::Part(41), // step_rest at !: guard
+    Symbol::Act(54), // step_rest at !: @output
+    Symbol::Take(84), // step_rest at !: ->
+    Symbol::Part(38), // step_rest at !: step
+    Symbol::Act(53), // step_rest at !: @prefix
+    Symbol::Line(39, 74, false), // step_rest at ?
+    Symbol::Take(76), // step_rest at ?: (
+    Symbol::Part(31), // step_rest at ?: names_end
+    Symbol::Part(41), // step_rest at ?: guard
+    Symbol::Act(55), // step_rest at ?: @input
+    Symbol::Take(84), // step_rest at ?: ->
+    Symbol::Part(38), // step_rest at ?: step
+    Symbol::Act(53), // step_rest at ?: @prefix
+    Symbol::Line(39, 61, false), // step_rest at .
+    Symbol::Keep(1), // step_rest at .: ^name
+    Symbol::Act(67), // step_rest at .: @no_terms
+    Symbol::Part(112), // step_rest at .: step_rest_1
+    Symbol::Part(113), // step_rest at .: step_rest_2
+    Symbol::Act(56), // step_rest at .: @operation_call
+    Symbol::Take(84), // step_rest at .: ->
+    Symbol::Part(38), // step_rest at .: step
+    Symbol::Act(53), // step_rest at .: @prefix
+    Symbol::Line(39, 76, false), // step_rest at (
+    Symbol::Act(67), // step_rest at (: @no_terms
+    Symbol::Part(69), // step_rest at (: terms
+    Symbol::Take(77), // step_rest at (: )
+    Symbol::Act(52), // step_rest at (: @call
+    Symbol::Line(39, 0, false), // step_rest
+    Symbol::Act(67), // step_rest: @no_terms
+    Symbol::Act(52), // step_rest: @call
+    Symbol::Line(40, 77, false), // terms_end at )
+    Symbol::Line(40, 0, false), // terms_end
+    Symbol::Part(69), // terms_end: terms
+    Symbol::Take(77), // terms_end: )
+    Symbol::Line(41, 78, false), // guard at {
+    Symbol::Part(42), // guard at {: formula
+    Symbol::Take(79), // guard at {: }
+    Symbol::Act(19), // guard at {: @some_condition
+    Symbol::Line(41, 0, false), // guard
+    Symbol::Act(20), // guard: @no_condition
+    Symbol::Line(42, 0, false), // formula
+    Symbol::Part(49), // formula: unit
+    Symbol::Part(43), // formula: formula_tail
+    Symbol::Line(43, 64, false), // formula_tail at &
+    Symbol::Part(49), // formula_tail at &: unit
+    Symbol::Act(60), // formula_tail at &: @and
+    Symbol::Part(44), // formula_tail at &: and_tail
+    Symbol::Part(46), // formula_tail at &: implies_tail
+    Symbol::Line(43, 44, false), // formula_tail at or
+    Symbol::Part(49), // formula_tail at or: unit
+    Symbol::Act(61), // formula_tail at or: @or
+    Symbol::Part(45), // formula_tail at or: or_tail
+    Symbol::Part(46), // formula_tail at or: implies_tail
+    Symbol::Line(43, 65, false), // formula_tail at =>
+    Symbol::Part(47), // formula_tail at =>: part
+    Symbol::Act(62), // formula_tail at =>: @implies
+    Symbol::Line(43, 66, false), // formula_tail at <=>
+    Symbol::Part(49), // formula_tail at <=>: unit
+    Symbol::Act(63), // formula_tail at <=>: @equivalent
+    Symbol::Line(43, 0, false), // formula_tail
+    Symbol::Line(44, 0, false), // and_tail
+    Symbol::Part(114), // and_tail: and_tail_1
+    Symbol::Line(45, 0, false), // or_tail
+    Symbol::Part(115), // or_tail: or_tail_1
+    Symbol::Line(46, 0, false), // implies_tail
+    Symbol::Part(116), // implies_tail: implies_tail_1
+    Symbol::Line(47, 0, false), // part
+    Symbol::Part(49), // part: unit
+    Symbol::Part(48), // part: part_tail
+    Symbol::Line(48, 64, false), // part_tail at &
+    Symbol::Part(49), // part_tail at &: unit
+    Symbol::Act(60), // part_tail at &: @and
+    Symbol::Part(44), // part_tail at &: and_tail
+    Symbol::Line(48, 44, false), // part_tail at or
+    Symbol::Part(49), // part_tail at or: unit
+    Symbol::Act(61), // part_tail at or: @or
+    Symbol::Part(45), // part_tail at or: or_tail
+    Symbol::Line(48, 0, false), // part_tail
+    Symbol::Line(49, 49, false), // unit at btrue
+    Symbol::Act(57), // unit at btrue: @always_true
+    Symbol::Line(49, 50, false), // unit at bfalse
+    Symbol::Act(58), // unit at bfalse: @always_false
+    Symbol::Line(49, 45, false), // unit at not
+    Symbol::Take(76), // unit at not: (
+    Symbol::Part(42), // unit at not: formula
+    Symbol::Take(77), // unit at not: )
+    Symbol::Act(59), // unit at not: @not
+    Symbol::Line(49, 73, false), // unit at !
+    Symbol::Keep(1), // unit at !: ^name
+    Symbol::Take(61), // unit at !: .
+    Symbol::Take(76), // unit at !: (
+    Symbol::Part(47), // unit at !: part
+    Symbol::Take(65), // unit at !: =>
+    Symbol::Part(47), // unit at !: part
+    Symbol::Take(77), // unit at !: )
+    Symbol::Act(64), // unit at !: @for_all
+    Symbol::Line(49, 75, false), // unit at #
+    Symbol::Keep(1), // unit at #: ^name
+    Symbol::Take(61), // unit at #: .
+    Symbol::Take(76), // unit at #: (
+    Symbol::Part(47), // unit at #: part
+    Symbol::Take(77), // unit at #: )
+    Symbol::Act(65), // unit at #: @exists
+    Symbol::Line(49, 76, false), // unit at (
+    Symbol::Part(53), // unit at (: formula_or_term
+    Symbol::Then(51, 52), // unit at (: then(after_formula, after_term)
+    Symbol::Line(49, 0, false), // unit
+    Symbol::Part(67), // unit: factor_start
+    Symbol::Part(58), // unit: term_tail
+    Symbol::Part(50), // unit: relation
+    Symbol::Line(50, 67, true), // relation at =
+    Symbol::Part(57), // relation at =: term
+    Symbol::Act(66), // relation at =: @relation
+    Symbol::Line(50, 68, true), // relation at /=
+    Symbol::Part(57), // relation at /=: term
+    Symbol::Act(66), // relation at /=: @relation
+    Symbol::Line(50, 69, true), // relation at <
+    Symbol::Part(57), // relation at <: term
+    Symbol::Act(66), // relation at <: @relation
+    Symbol::Line(50, 70, true), // relation at <=
+    Symbol::Part(57), // relation at <=: term
+    Symbol::Act(66), // relation at <=: @relation
+    Symbol::Line(50, 71, true), // relation at >
+    Symbol::Part(57), // relation at >: term
+    Symbol::Act(66), // relation at >: @relation
+    Symbol::Line(50, 72, true), // relation at >=
+    Symbol::Part(57), // relation at >=: term
+    Symbol::Act(66), // relation at >=: @relation
+    Symbol::Line(50, 55, true), // relation at :
+    Symbol::Part(57), // relation at :: term
+    Symbol::Act(66), // relation at :: @relation
+    Symbol::Line(50, 56, true), // relation at /:
+    Symbol::Part(57), // relation at /:: term
+    Symbol::Act(66), // relation at /:: @relation
+    Symbol::Line(50, 57, true), // relation at <:
+    Symbol::Part(57), // relation at <:: term
+    Symbol::Act(66), // relation at <:: @relation
+    Symbol::Line(51, 77, false), // after_formula at )
+    Symbol::Line(52, 77, false), // after_term at )
+    Symbol::Part(58), // after_term at ): term_tail
+    Symbol::Part(50), // after_term at ): relation
+    Symbol::Line(53, 49, false), // formula_or_term at btrue
+    Symbol::Act(57), // formula_or_term at btrue: @always_true
+    Symbol::Part(43), // formula_or_term at btrue: formula_tail
+    Symbol::Gives(0), // formula_or_term at btrue: gives 0
+    Symbol::Line(53, 50, false), // formula_or_term at bfalse
+    Symbol::Act(58), // formula_or_term at bfalse: @always_false
+    Symbol::Part(43), // formula_or_term at bfalse: formula_tail
+    Symbol::Gives(0), // formula_or_term at bfalse: gives 0
+    Symbol::Line(53, 45, false), // formula_or_term at not
+    Symbol::Take(76), // formula_or_term at not: (
+    Symbol::Part(42), // formula_or_term at not: formula
+    Symbol::Take(77), // formula_or_term at not: )
+    Symbol::Act(59), // formula_or_term at not: @not
+    Symbol::Part(43), // formula_or_term at not: formula_tail
+    Symbol::Gives(0), // formula_or_term at not: gives 0
+    Symbol::Line(53, 73, false), // formula_or_term at !
+    Symbol::Keep(1), // formula_or_term at !: ^name
+    Symbol::Take(61), // formula_or_term at !: .
+    Symbol::Take(76), // formula_or_term at !: (
+    Symbol::Part(47), // formula_or_term at !: part
+    Symbol::Take(65), // formula_or_term at !: =>
+    Symbol::Part(47), // formula_or_term at !: part
+    Symbol::Take(77), // formula_or_term at !: )
+    Symbol::Act(64), // formula_or_term at !: @for_all
+    Symbol::Part(43), // formula_or_term at !: formula_tail
+    Symbol::Gives(0), // formula_or_term at !: gives 0
+    Symbol::Line(53, 75, false), // formula_or_term at #
+    Symbol::Keep(1), // formula_or_term at #: ^name
+    Symbol::Take(61), // formula_or_term at #: .
+    Symbol::Take(76), // formula_or_term at #: (
+    Symbol::Part(47), // formula_or_term at #: part
+    Symbol::Take(77), // formula_or_term at #: )
+    Symbol::Act(65), // formula_or_term at #: @exists
+    Symbol::Part(43), // formula_or_term at #: formula_tail
+    Symbol::Gives(0), // formula_or_term at #: gives 0
+    Symbol::Line(53, 76, false), // formula_or_term at (
+    Symbol::Part(53), // formula_or_term at (: formula_or_term
+    Symbol::Then(54, 55), // formula_or_term at (: then(inside_formula, inside_term)
+    Symbol::Line(53, 0, false), // formula_or_term
+    Symbol::Part(67), // formula_or_term: factor_start
+    Symbol::Part(58), // formula_or_term: term_tail
+    Symbol::Part(56), // formula_or_term: relation_or_none
+    Symbol::Line(54, 77, false), // inside_formula at )
+    Symbol::Part(43), // inside_formula at ): formula_tail
+    Symbol::Gives(0), // inside_formula at ): gives 0
+    Symbol::Line(55, 77, false), // inside_term at )
+    Symbol::Part(58), // inside_term at ): term_tail
+    Symbol::Part(56), // inside_term at ): relation_or_none
+    Symbol::Line(56, 67, true), // relation_or_none at =
+    Symbol::Part(57), // relation_or_none at =: term
+    Symbol::Act(66), // relation_or_none at =: @relation
+    Symbol::Part(43), // relation_or_none at =: formula_tail
+    Symbol::Gives(0), // relation_or_none at =: gives 0
+    Symbol::Line(56, 68, true), // relation_or_none at /=
+    Symbol::Part(57), // relation_or_none at /=: term
+    Symbol::Act(66), // relation_or_none at /=: @relation
+    Symbol::Part(43), // relation_or_none at /=: formula_tail
+    Symbol::Gives(0), // relation_or_none at /=: gives 0
+    Symbol::Line(56, 69, true), // relation_or_none at <
+    Symbol::Part(57), // relation_or_none at <: term
+    Symbol::Act(66), // relation_or_none at <: @relation
+    Symbol::Part(43), // relation_or_none at <: formula_tail
+    Symbol::Gives(0), // relation_or_none at <: gives 0
+    Symbol::Line(56, 70, true), // relation_or_none at <=
+    Symbol::Part(57), // relation_or_none at <=: term
+    Symbol::Act(66), // relation_or_none at <=: @relation
+    Symbol::Part(43), // relation_or_none at <=: formula_tail
+    Symbol::Gives(0), // relation_or_none at <=: gives 0
+    Symbol::Line(56, 71, true), // relation_or_none at >
+    Symbol::Part(57), // relation_or_none at >: term
+    Symbol::Act(66), // relation_or_none at >: @relation
+    Symbol::Part(43), // relation_or_none at >: formula_tail
+    Symbol::Gives(0), // relation_or_none at >: gives 0
+    Symbol::Line(56, 72, true), // relation_or_none at >=
+    Symbol::Part(57), // relation_or_none at >=: term
+    Symbol::Act(66), // relation_or_none at >=: @relation
+    Symbol::Part(43), // relation_or_none at >=: formula_tail
+    Symbol::Gives(0), // relation_or_none at >=: gives 0
+    Symbol::Line(56, 55, true), // relation_or_none at :
+    Symbol::Part(57), // relation_or_none at :: term
+    Symbol::Act(66), // relation_or_none at :: @relation
+    Symbol::Part(43), // relation_or_none at :: formula_tail
+    Symbol::Gives(0), // relation_or_none at :: gives 0
+    Symbol::Line(56, 56, true), // relation_or_none at /:
+    Symbol::Part(57), // relation_or_none at /:: term
+    Symbol::Act(66), // relation_or_none at /:: @relation
+    Symbol::Part(43), // relation_or_none at /:: formula_tail
+    Symbol::Gives(0), // relation_or_none at /:: gives 0
+    Symbol::Line(56, 57, true), // relation_or_none at <:
+    Symbol::Part(57), // relation_or_none at <:: term
+    Symbol::Act(66), // relation_or_none at <:: @relation
+    Symbol::Part(43), // relation_or_none at <:: formula_tail
+    Symbol::Gives(0), // relation_or_none at <:: gives 0
+    Symbol::Line(56, 0, false), // relation_or_none
+    Symbol::Gives(1), // relation_or_none: gives 1
+    Symbol::Line(57, 0, false), // term
+    Symbol::Part(66), // term: factor
+    Symbol::Part(58), // term: term_tail
+    Symbol::Line(58, 60, true), // term_tail at ..
+    Symbol::Part(64), // term_tail at ..: sum
+    Symbol::Act(71), // term_tail at ..: @binary
+    Symbol::Line(58, 58, true), // term_tail at \/
+    Symbol::Part(66), // term_tail at \/: factor
+    Symbol::Act(71), // term_tail at \/: @binary
+    Symbol::Part(59), // term_tail at \/: union_tail
+    Symbol::Line(58, 59, true), // term_tail at /\
+    Symbol::Part(66), // term_tail at /\: factor
+    Symbol::Act(71), // term_tail at /\: @binary
+    Symbol::Part(60), // term_tail at /\: intersection_tail
+    Symbol::Line(58, 87, true), // term_tail at *
+    Symbol::Part(66), // term_tail at *: factor
+    Symbol::Act(71), // term_tail at *: @binary
+    Symbol::Part(61), // term_tail at *: product_tail
+    Symbol::Part(62), // term_tail at *: sum_tail
+    Symbol::Part(63), // term_tail at *: range_tail
+    Symbol::Line(58, 88, true), // term_tail at /
+    Symbol::Part(66), // term_tail at /: factor
+    Symbol::Act(71), // term_tail at /: @binary
+    Symbol::Part(61), // term_tail at /: product_tail
+    Symbol::Part(62), // term_tail at /: sum_tail
+    Symbol::Part(63), // term_tail at /: range_tail
+    Symbol::Line(58, 46, true), // term_tail at mod
+    Symbol::Part(66), // term_tail at mod: factor
+    Symbol::Act(71), // term_tail at mod: @binary
+    Symbol::Part(61), // term_tail at mod: product_tail
+    Symbol::Part(62), // term_tail at mod: sum_tail
+    Symbol::Part(63), // term_tail at mod: range_tail
+    Symbol::Line(58, 85, true), // term_tail at +
+    Symbol::Part(65), // term_tail at +: product
+    Symbol::Act(71), // term_tail at +: @binary
+    Symbol::Part(62), // term_tail at +: sum_tail
+    Symbol::Part(63), // term_tail at +: range_tail
+    Symbol::Line(58, 86, true), // term_tail at -
+    Symbol::Part(65), // term_tail at -: product
+    Symbol::Act(71), // term_tail at -: @binary
+    Symbol::Part(62), // term_tail at -: sum_tail
+    Symbol::Part(63), // term_tail at -: range_tail
+    Symbol::Line(58, 0, false), // term_tail
+    Symbol::Line(59, 0, false), // union_tail
+    Symbol::Part(117), // union_tail: union_tail_1
+    Symbol::Line(60, 0, false), // intersection_tail
+    Symbol::Part(118), // intersection_tail: intersection_tail_1
+    Symbol::Line(61, 87, true), // product_tail at *
+    Symbol::Part(66), // product_tail at *: factor
+    Symbol::Act(71), // product_tail at *: @binary
+    Symbol::Part(61), // product_tail at *: product_tail
+    Symbol::Line(61, 88, true), // product_tail at /
+    Symbol::Part(66), // product_tail at /: factor
+    Symbol::Act(71), // product_tail at /: @binary
+    Symbol::Part(61), // product_tail at /: product_tail
+    Symbol::Line(61, 46, true), // product_tail at mod
+    Symbol::Part(66), // product_tail at mod: factor
+    Symbol::Act(71), // product_tail at mod: @binary
+    Symbol::Part(61), // product_tail at mod: product_tail
+    Symbol::Line(61, 0, false), // product_tail
+    Symbol::Line(62, 85, true), // sum_tail at +
+    Symbol::Part(65), // sum_tail at +: product
+    Symbol::Act(71), // sum_tail at +: @binary
+    Symbol::Part(62), // sum_tail at +: sum_tail
+    Symbol::Line(62, 86, true), // sum_tail at -
+    Symbol::Part(65), // sum_tail at -: product
+    Symbol::Act(71), // sum_tail at -: @binary
+    Symbol::Part(62), // sum_tail at -: sum_tail
+    Symbol::Line(62, 0, false), // sum_tail
+    Symbol::Line(63, 0, false), // range_tail
+    Symbol::Part(119), // range_tail: range_tail_1
+    Symbol::Line(64, 0, false), // sum
+    Symbol::Part(65), // sum: product
+    Symbol::Part(62), // sum: sum_tail
+    Symbol::Line(65, 0, false), // product
+    Symbol::Part(66), // product: factor
+    Symbol::Part(61), // product: product_tail
+    Symbol::Line(66, 76, false), // factor at (
+    Symbol::Part(57), // factor at (: term
+    Symbol::Take(77), // factor at (: )
+    Symbol::Line(66, 0, false), // factor
+    Symbol::Part(67), // factor: factor_start
+    Symbol::Line(67, 1, true), // factor_start at name
+    Symbol::Act(69), // factor_start at name: @atom
+    Symbol::Line(67, 2, true), // factor_start at number
+    Symbol::Act(69), // factor_start at number: @atom
+    Symbol::Line(67, 34, true), // factor_start at TRUE
+    Symbol::Act(69), // factor_start at TRUE: @atom
+    Symbol::Line(67, 35, true), // factor_start at FALSE
+    Symbol::Act(69), // factor_start at FALSE: @atom
+    Symbol::Line(67, 40, true), // factor_start at MAXINT
+    Symbol::Act(69), // factor_start at MAXINT: @atom
+    Symbol::Line(67, 41, true), // factor_start at MININT
+    Symbol::Act(69), // factor_start at MININT: @atom
+    Symbol::Line(67, 37, true), // factor_start at NAT
+    Symbol::Act(69), // factor_start at NAT: @atom
+    Symbol::Line(67, 38, true), // factor_start at NAT1
+    Symbol::Act(69), // factor_start at NAT1: @atom
+    Symbol::Line(67, 39, true), // factor_start at INT
+    Symbol::Act(69), // factor_start at INT: @atom
+    Symbol::Line(67, 36, true), // factor_start at BOOL
+    Symbol::Act(69), // factor_start at BOOL: @atom
+    Symbol::Line(67, 86, true), // factor_start at -
+    Symbol::Part(66), // factor_start at -: factor
+    Symbol::Act(70), // factor_start at -: @minus
+    Symbol::Line(67, 47, true), // factor_start at card
+    Symbol::Take(76), // factor_start at card: (
+    Symbol::Part(57), // factor_start at card: term
+    Symbol::Take(77), // factor_start at card: )
+    Symbol::Act(72), // factor_start at card: @card
+    Symbol::Line(67, 48, true), // factor_start at bool
+    Symbol::Take(76), // factor_start at bool: (
+    Symbol::Part(42), // factor_start at bool: formula
+    Symbol::Take(77), // factor_start at bool: )
+    Symbol::Act(73), // factor_start at bool: @bool
+    Symbol::Line(67, 78, true), // factor_start at {
+    Symbol::Act(67), // factor_start at {: @no_terms
+    Symbol::Part(68), // factor_start at {: set_end
+    Symbol::Act(74), // factor_start at {: @listed
+    Symbol::Line(68, 79, false), // set_end at }
+    Symbol::Line(68, 0, false), // set_end
+    Symbol::Part(69), // set_end: terms
+    Symbol::Take(79), // set_end: }
+    Symbol::Line(69, 0, false), // terms
+    Symbol::Part(57), // terms: term
+    Symbol::Act(68), // terms: @append_term
+    Symbol::Part(120), // terms: terms_1
+    Symbol::Line(70, 0, false), // proofs
+    Symbol::Act(75), // proofs: @no_proofs
+    Symbol::Part(121), // proofs: proofs_1
+    Symbol::Line(71, 128, true), // obligation at INIT
+    Symbol::Part(72), // obligation at INIT: of_owner
+    Symbol::Line(71, 27, true), // obligation at START
+    Symbol::Part(72), // obligation at START: of_owner
+    Symbol::Line(71, 129, true), // obligation at OP
+    Symbol::Part(73), // obligation at OP: of_part
+    Symbol::Line(71, 130, true), // obligation at LOOP
+    Symbol::Part(73), // obligation at LOOP: of_part
+    Symbol::Line(71, 131, true), // obligation at MATCH
+    Symbol::Part(73), // obligation at MATCH: of_part
+    Symbol::Line(71, 132, true), // obligation at LIVE
+    Symbol::Take(55), // obligation at LIVE: :
+    Symbol::Keep(1), // obligation at LIVE: ^name
+    Symbol::Take(55), // obligation at LIVE: :
+    Symbol::Part(122), // obligation at LIVE: obligation_1
+    Symbol::Take(55), // obligation at LIVE: :
+    Symbol::Keep(2), // obligation at LIVE: ^number
+    Symbol::Act(78), // obligation at LIVE: @obligation_of_part
+    Symbol::Line(72, 55, false), // of_owner at :
+    Symbol::Keep(1), // of_owner at :: ^name
+    Symbol::Take(55), // of_owner at :: :
+    Symbol::Keep(2), // of_owner at :: ^number
+    Symbol::Act(77), // of_owner at :: @obligation_of_owner
+    Symbol::Line(73, 55, false), // of_part at :
+    Symbol::Keep(1), // of_part at :: ^name
+    Symbol::Take(55), // of_part at :: :
+    Symbol::Keep(1), // of_part at :: ^name
+    Symbol::Take(55), // of_part at :: :
+    Symbol::Keep(2), // of_part at :: ^number
+    Symbol::Act(78), // of_part at :: @obligation_of_part
+    Symbol::Line(74, 133, true), // node at HYP
+    Symbol::Keep(2), // node at HYP: ^number
+    Symbol::Act(79), // node at HYP: @no_nodes
+    Symbol::Act(86), // node at HYP: @rule_hypothesis
+    Symbol::Line(74, 134, true), // node at CONTRA
+    Symbol::Keep(2), // node at CONTRA: ^number
+    Symbol::Keep(2), // node at CONTRA: ^number
+    Symbol::Act(79), // node at CONTRA: @no_nodes
+    Symbol::Act(87), // node at CONTRA: @rule_two_hypotheses
+    Symbol::Line(74, 135, true), // node at EVAL
+    Symbol::Part(75), // node at EVAL: no_premise
+    Symbol::Line(74, 136, true), // node at EVALNOT
+    Symbol::Keep(2), // node at EVALNOT: ^number
+    Symbol::Act(79), // node at EVALNOT: @no_nodes
+    Symbol::Act(86), // node at EVALNOT: @rule_hypothesis
+    Symbol::Line(74, 137, true), // node at REFL
+    Symbol::Part(75), // node at REFL: no_premise
+    Symbol::Line(74, 138, true), // node at LIN
+    Symbol::Take(80), // node at LIN: [
+    Symbol::Act(81), // node at LIN: @no_rows
+    Symbol::Part(86), // node at LIN: row
+    Symbol::Act(82), // node at LIN: @append_row
+    Symbol::Part(123), // node at LIN: node_1
+    Symbol::Take(81), // node at LIN: ]
+    Symbol::Act(79), // node at LIN: @no_nodes
+    Symbol::Act(88), // node at LIN: @rule_rows
+    Symbol::Line(74, 139, true), // node at CUT
+    Symbol::Take(80), // node at CUT: [
+    Symbol::Part(42), // node at CUT: formula
+    Symbol::Take(81), // node at CUT: ]
+    Symbol::Part(83), // node at CUT: two_nodes
+    Symbol::Act(89), // node at CUT: @rule_formula
+    Symbol::Line(74, 140, true), // node at CASES
+    Symbol::Take(80), // node at CASES: [
+    Symbol::Part(42), // node at CASES: formula
+    Symbol::Take(81), // node at CASES: ]
+    Symbol::Part(83), // node at CASES: two_nodes
+    Symbol::Act(89), // node at CASES: @rule_formula
+    Symbol::Line(74, 141, true), // node at ANDR
+    Symbol::Part(77), // node at ANDR: two_premises
+    Symbol::Line(74, 142, true), // node at OR1
+    Symbol::Part(76), // node at OR1: one_premise
+    Symbol::Line(74, 143, true), // node at OR2
+    Symbol::Part(76), // node at OR2: one_premise
+    Symbol::Line(74, 144, true), // node at IMPR
+    Symbol::Part(76), // node at IMPR: one_premise
+    Symbol::Line(74, 145, true), // node at NOTR
+    Symbol::Part(76), // node at NOTR: one_premise
+    Symbol::Line(74, 146, true), // node at IFFR
+    Symbol::Part(77), // node at IFFR: two_premises
+    Symbol::Line(74, 147, true), // node at ALLR
+    Symbol::Part(76), // node at ALLR: one_premise
+    Symbol::Line(74, 148, true), // node at EXR
+    Symbol::Part(80), // node at EXR: term_one_premise
+    Symbol::Line(74, 149, true), // node at ANDL
+    Symbol::Part(78), // node at ANDL: hypothesis_one_premise
+    Symbol::Line(74, 150, true), // node at ORL
+    Symbol::Part(79), // node at ORL: hypothesis_two_premises
+    Symbol::Line(74, 151, true), // node at IMPL
+    Symbol::Part(79), // node at IMPL: hypothesis_two_premises
+    Symbol::Line(74, 152, true), // node at IFFL
+    Symbol::Part(78), // node at IFFL: hypothesis_one_premise
+    Symbol::Line(74, 153, true), // node at NOTL
+    Symbol::Part(78), // node at NOTL: hypothesis_one_premise
+    Symbol::Line(74, 154, true), // node at ALLL
+    Symbol::Keep(2), // node at ALLL: ^number
+    Symbol::Take(80), // node at ALLL: [
+    Symbol::Part(57), // node at ALLL: term
+    Symbol::Take(81), // node at ALLL: ]
+    Symbol::Part(82), // node at ALLL: one_node
+    Symbol::Act(92), // node at ALLL: @rule_hypothesis_term
+    Symbol::Line(74, 155, true), // node at EXL
+    Symbol::Part(78), // node at EXL: hypothesis_one_premise
+    Symbol::Line(74, 156, true), // node at EQ
+    Symbol::Part(78), // node at EQ: hypothesis_one_premise
+    Symbol::Line(74, 157, true), // node at EQIN
+    Symbol::Keep(2), // node at EQIN: ^number
+    Symbol::Keep(2), // node at EQIN: ^number
+    Symbol::Part(82), // node at EQIN: one_node
+    Symbol::Act(87), // node at EQIN: @rule_two_hypotheses
+    Symbol::Line(74, 158, true), // node at BOOLCASES
+    Symbol::Take(80), // node at BOOLCASES: [
+    Symbol::Part(57), // node at BOOLCASES: term
+    Symbol::Take(81), // node at BOOLCASES: ]
+    Symbol::Part(83), // node at BOOLCASES: two_nodes
+    Symbol::Act(90), // node at BOOLCASES: @rule_term
+    Symbol::Line(74, 159, true), // node at BOOLR
+    Symbol::Part(76), // node at BOOLR: one_premise
+    Symbol::Line(74, 160, true), // node at BOOLL
+    Symbol::Part(78), // node at BOOLL: hypothesis_one_premise
+    Symbol::Line(74, 161, true), // node at ELEMS
+    Symbol::Take(80), // node at ELEMS: [
+    Symbol::Part(57), // node at ELEMS: term
+    Symbol::Take(81), // node at ELEMS: ]
+    Symbol::Part(85), // node at ELEMS: some_nodes
+    Symbol::Act(90), // node at ELEMS: @rule_term
+    Symbol::Line(74, 162, true), // node at SPLIT
+    Symbol::Take(80), // node at SPLIT: [
+    Symbol::Part(57), // node at SPLIT: term
+    Symbol::Take(81), // node at SPLIT: ]
+    Symbol::Take(80), // node at SPLIT: [
+    Symbol::Part(57), // node at SPLIT: term
+    Symbol::Take(81), // node at SPLIT: ]
+    Symbol::Part(84), // node at SPLIT: three_nodes
+    Symbol::Act(91), // node at SPLIT: @rule_two_terms
+    Symbol::Line(74, 163, true), // node at EQLE
+    Symbol::Part(77), // node at EQLE: two_premises
+    Symbol::Line(74, 164, true), // node at RNG
+    Symbol::Part(77), // node at RNG: two_premises
+    Symbol::Line(74, 165, true), // node at RNGL
+    Symbol::Part(78), // node at RNGL: hypothesis_one_premise
+    Symbol::Line(74, 166, true), // node at DIVMOD
+    Symbol::Take(80), // node at DIVMOD: [
+    Symbol::Part(57), // node at DIVMOD: term
+    Symbol::Take(81), // node at DIVMOD: ]
+    Symbol::Keep(2), // node at DIVMOD: ^number
+    Symbol::Part(82), // node at DIVMOD: one_node
+    Symbol::Act(93), // node at DIVMOD: @rule_term_number
+    Symbol::Line(74, 167, true), // node at MULSIGN
+    Symbol::Take(80), // node at MULSIGN: [
+    Symbol::Part(57), // node at MULSIGN: term
+    Symbol::Take(81), // node at MULSIGN: ]
+    Symbol::Take(80), // node at MULSIGN: [
+    Symbol::Part(57), // node at MULSIGN: term
+    Symbol::Take(81), // node at MULSIGN: ]
+    Symbol::Part(84), // node at MULSIGN: three_nodes
+    Symbol::Act(91), // node at MULSIGN: @rule_two_terms
+    Symbol::Line(74, 168, true), // node at MEMBER
+    Symbol::Part(76), // node at MEMBER: one_premise
+    Symbol::Line(74, 169, true), // node at MEMBERL
+    Symbol::Part(78), // node at MEMBERL: hypothesis_one_premise
+    Symbol::Line(74, 170, true), // node at SUBSET
+    Symbol::Part(76), // node at SUBSET: one_premise
+    Symbol::Line(74, 171, true), // node at SUBSETL
+    Symbol::Keep(2), // node at SUBSETL: ^number
+    Symbol::Take(80), // node at SUBSETL: [
+    Symbol::Part(57), // node at SUBSETL: term
+    Symbol::Take(81), // node at SUBSETL: ]
+    Symbol::Part(82), // node at SUBSETL: one_node
+    Symbol::Act(92), // node at SUBSETL: @rule_hypothesis_term
+    Symbol::Line(74, 172, true), // node at EXT
+    Symbol::Part(77), // node at EXT: two_premises
+    Symbol::Line(74, 173, true), // node at CARDPOS
+    Symbol::Part(80), // node at CARDPOS: term_one_premise
+    Symbol::Line(74, 174, true), // node at CARDADD
+    Symbol::Part(81), // node at CARDADD: two_terms_two_premises
+    Symbol::Line(74, 175, true), // node at CARDDEL
+    Symbol::Part(81), // node at CARDDEL: two_terms_two_premises
+    Symbol::Line(74, 176, true), // node at CARDSUB
+    Symbol::Part(81), // node at CARDSUB: two_terms_two_premises
+    Symbol::Line(75, 0, false), // no_premise
+    Symbol::Act(79), // no_premise: @no_nodes
+    Symbol::Act(85), // no_premise: @rule
+    Symbol::Line(76, 0, false), // one_premise
+    Symbol::Part(82), // one_premise: one_node
+    Symbol::Act(85), // one_premise: @rule
+    Symbol::Line(77, 0, false), // two_premises
+    Symbol::Part(83), // two_premises: two_nodes
+    Symbol::Act(85), // two_premises: @rule
+    Symbol::Line(78, 2, true), // hypothesis_one_premise at number
+    Symbol::Part(82), // hypothesis_one_premise at number: one_node
+    Symbol::Act(86), // hypothesis_one_premise at number: @rule_hypothesis
+    Symbol::Line(79, 2, true), // hypothesis_two_premises at number
+    Symbol::Part(83), // hypothesis_two_premises at number: two_nodes
+    Symbol::Act(86), // hypothesis_two_premises at number: @rule_hypothesis
+    Symbol::Line(80, 80, false), // term_one_premise at [
+    Symbol::Part(57), // term_one_premise at [: term
+    Symbol::Take(81), // term_one_premise at [: ]
+    Symbol::Part(82), // term_one_premise at [: one_node
+    Symbol::Act(90), // term_one_premise at [: @rule_term
+    Symbol::Line(81, 80, false), // two_terms_two_premises at [
+    Symbol::Part(57), // two_terms_two_premises at [: term
+    Symbol::Take(81), // two_terms_two_premises at [: ]
+    Symbol::Take(80), // two_terms_two_premises at [: [
+    Symbol::Part(57), // two_terms_two_premises at [: term
+    Symbol::Take(81), // two_terms_two_premises at [: ]
+    Symbol::Part(83), // two_terms_two_premises at [: two_nodes
+    Symbol::Act(91), // two_terms_two_premises at [: @rule_two_terms
+    Symbol::Line(82, 76, false), // one_node at (
+    Symbol::Act(79), // one_node at (: @no_nodes
+    Symbol::Part(74), // one_node at (: node
+    Symbol::Act(80), // one_node at (: @append_node
+    Symbol::Take(77), // one_node at (: )
+    Symbol::Line(83, 76, false), // two_nodes at (
+    Symbol::Act(79), // two_nodes at (: @no_nodes
+    Symbol::Part(74), // two_nodes at (: node
+    Symbol::Act(80), // two_nodes at (: @append_node
+    Symbol::Take(62), // two_nodes at (: ,
+    Symbol::Part(74), // two_nodes at (: node
+    Symbol::Act(80), // two_nodes at (: @append_node
+    Symbol::Take(77), // two_nodes at (: )
+    Symbol::Line(84, 76, false), // three_nodes at (
+    Symbol::Act(79), // three_nodes at (: @no_nodes
+    Symbol::Part(74), // three_nodes at (: node
+    Symbol::Act(80), // three_nodes at (: @append_node
+    Symbol::Take(62), // three_nodes at (: ,
+    Symbol::Part(74), // three_nodes at (: node
+    Symbol::Act(80), // three_nodes at (: @append_node
+    Symbol::Take(62), // three_nodes at (: ,
+    Symbol::Part(74), // three_nodes at (: node
+    Symbol::Act(80), // three_nodes at (: @append_node
+    Symbol::Take(77), // three_nodes at (: )
+    Symbol::Line(85, 76, false), // some_nodes at (
+    Symbol::Act(79), // some_nodes at (: @no_nodes
+    Symbol::Part(74), // some_nodes at (: node
+    Symbol::Act(80), // some_nodes at (: @append_node
+    Symbol::Part(124), // some_nodes at (: some_nodes_1
+    Symbol::Take(77), // some_nodes at (: )
+    Symbol::Line(86, 2, true), // row at number
+    Symbol::Take(87), // row at number: *
+    Symbol::Part(125), // row at number: row_1
+    Symbol::Line(87, 31, false), // before_proofs_1 at PROOF
+    Symbol::Line(87, 3, false), // before_proofs_1 at finish
+    Symbol::Line(88, 4, false), // text_1 at MACHINE
+    Symbol::Keep(1), // text_1 at MACHINE: ^name
+    Symbol::Act(5), // text_1 at MACHINE: @machine
+    Symbol::Part(89), // text_1 at MACHINE: machine_1
+    Symbol::Part(91), // text_1 at MACHINE: machine_3
+    Symbol::Part(93), // text_1 at MACHINE: machine_5
+    Symbol::Part(94), // text_1 at MACHINE: machine_6
+    Symbol::Part(96), // text_1 at MACHINE: machine_8
+    Symbol::Take(13), // text_1 at MACHINE: END
+    Symbol::Act(1), // text_1 at MACHINE: @add_machine
+    Symbol::Part(5), // text_1 at MACHINE: more_text
+    Symbol::Line(88, 0, false), // text_1
+    Symbol::Part(6), // text_1: system_text
+    Symbol::Line(89, 5, false), // machine_1 at SEES
+    Symbol::Part(11), // machine_1 at SEES: names
+    Symbol::Act(6), // machine_1 at SEES: @sees
+    Symbol::Line(89, 0, false), // machine_1
+    Symbol::Line(90, 63, false), // machine_2 at ;
+    Symbol::Part(12), // machine_2 at ;: set
+    Symbol::Part(90), // machine_2 at ;: machine_2
+    Symbol::Line(90, 0, false), // machine_2
+    Symbol::Line(91, 6, false), // machine_3 at SETS
+    Symbol::Part(12), // machine_3 at SETS: set
+    Symbol::Part(90), // machine_3 at SETS: machine_2
+    Symbol::Line(91, 0, false), // machine_3
+    Symbol::Line(92, 64, false), // machine_4 at &
+    Symbol::Part(13), // machine_4 at &: property
+    Symbol::Part(92), // machine_4 at &: machine_4
+    Symbol::Line(92, 0, false), // machine_4
+    Symbol::Line(93, 7, false), // machine_5 at CONSTANTS
+    Symbol::Part(11), // machine_5 at CONSTANTS: names
+    Symbol::Act(8), // machine_5 at CONSTANTS: @constants
+    Symbol::Take(8), // machine_5 at CONSTANTS: PROPERTIES
+    Symbol::Part(13), // machine_5 at CONSTANTS: property
+    Symbol::Part(92), // machine_5 at CONSTANTS: machine_4
+    Symbol::Line(93, 0, false), // machine_5
+    Symbol::Line(94, 9, false), // machine_6 at VARIABLES
+    Symbol::Part(11), // machine_6 at VARIABLES: names
+    Symbol::Take(10), // machine_6 at VARIABLES: INVARIANT
+    Symbol::Part(42), // machine_6 at VARIABLES: formula
+    Symbol::Take(11), // machine_6 at VARIABLES: INITIALISATION
+    Symbol::Part(20), // machine_6 at VARIABLES: substitution
+    Symbol::Act(10), // machine_6 at VARIABLES: @variables
+    Symbol::Line(94, 0, false), // machine_6
+    Symbol::Line(95, 63, false), // machine_7 at ;
+    Symbol::Part(15), // machine_7 at ;: operation
+    Symbol::Part(95), // machine_7 at ;: machine_7
+    Symbol::Line(95, 0, false), // machine_7
+    Symbol::Line(96, 12, false), // machine_8 at OPERATIONS
+    Symbol::Part(15), // machine_8 at OPERATIONS: operation
+    Symbol::Part(95), // machine_8 at OPERATIONS: machine_7
+    Symbol::Line(96, 0, false), // machine_8
+    Symbol::Line(97, 62, false), // names_1 at ,
+    Symbol::Keep(1), // names_1 at ,: ^name
+    Symbol::Act(14), // names_1 at ,: @append_name
+    Symbol::Part(97), // names_1 at ,: names_1
+    Symbol::Line(97, 0, false), // names_1
+    Symbol::Line(98, 62, false), // more_results_1 at ,
+    Symbol::Keep(1), // more_results_1 at ,: ^name
+    Symbol::Act(18), // more_results_1 at ,: @append_result
+    Symbol::Part(98), // more_results_1 at ,: more_results_1
+    Symbol::Line(98, 0, false), // more_results_1
+    Symbol::Line(99, 53, false), // substitution_1 at ||
+    Symbol::Part(21), // substitution_1 at ||: simple
+    Symbol::Act(21), // substitution_1 at ||: @parallel
+    Symbol::Part(99), // substitution_1 at ||: substitution_1
+    Symbol::Line(99, 0, false), // substitution_1
+    Symbol::Line(100, 20, false), // simple_1 at OR
+    Symbol::Part(20), // simple_1 at OR: substitution
+    Symbol::Act(28), // simple_1 at OR: @append_side
+    Symbol::Part(100), // simple_1 at OR: simple_1
+    Symbol::Line(100, 0, false), // simple_1
+    Symbol::Line(101, 63, false), // channels_1 at ;
+    Symbol::Part(30), // channels_1 at ;: channel
+    Symbol::Part(101), // channels_1 at ;: channels_1
+    Symbol::Line(101, 0, false), // channels_1
+    Symbol::Line(102, 22, false), // channel_1 at WHERE
+    Symbol::Part(42), // channel_1 at WHERE: formula
+    Symbol::Act(19), // channel_1 at WHERE: @some_condition
+    Symbol::Line(102, 0, false), // channel_1
+    Symbol::Act(20), // channel_1: @no_condition
+    Symbol::Line(103, 26, false), // controller_1 at MACHINES
+    Symbol::Part(11), // controller_1 at MACHINES: names
+    Symbol::Act(38), // controller_1 at MACHINES: @machines
+    Symbol::Line(103, 0, false), // controller_1
+    Symbol::Line(104, 76, false), // controller_2 at (
+    Symbol::Part(69), // controller_2 at (: terms
+    Symbol::Take(77), // controller_2 at (: )
+    Symbol::Line(104, 0, false), // controller_2
+    Symbol::Line(105, 63, false), // controller_3 at ;
+    Symbol::Part(33), // controller_3 at ;: definition
+    Symbol::Part(105), // controller_3 at ;: controller_3
+    Symbol::Line(105, 0, false), // controller_3
+    Symbol::Line(106, 76, false), // definition_1 at (
+    Symbol::Part(34), // definition_1 at (: parameters
+    Symbol::Take(77), // definition_1 at (: )
+    Symbol::Line(106, 0, false), // definition_1
+    Symbol::Line(107, 29, false), // definition_2 at INV
+    Symbol::Take(76), // definition_2 at INV: (
+    Symbol::Part(42), // definition_2 at INV: formula
+    Symbol::Take(77), // definition_2 at INV: )
+    Symbol::Act(19), // definition_2 at INV: @some_condition
+    Symbol::Line(107, 0, false), // definition_2
+    Symbol::Act(20), // definition_2: @no_condition
+    Symbol::Line(108, 62, false), // parameters_1 at ,
+    Symbol::Part(35), // parameters_1 at ,: parameter
+    Symbol::Act(41), // parameters_1 at ,: @append_parameter
+    Symbol::Part(108), // parameters_1 at ,: parameters_1
+    Symbol::Line(108, 0, false), // parameters_1
+    Symbol::Line(109, 55, false), // parameter_1 at :
+    Symbol::Part(24), // parameter_1 at :: domain
+    Symbol::Act(42), // parameter_1 at :: @parameter_in
+    Symbol::Line(109, 57, false), // parameter_1 at <:
+    Symbol::Part(24), // parameter_1 at <:: domain
+    Symbol::Act(43), // parameter_1 at <:: @parameter_subset
+    Symbol::Line(110, 82, false), // process_tail_1 at []
+    Symbol::Part(38), // process_tail_1 at []: step
+    Symbol::Act(46), // process_tail_1 at []: @append_process
+    Symbol::Part(110), // process_tail_1 at []: process_tail_1
+    Symbol::Line(110, 0, false), // process_tail_1
+    Symbol::Line(111, 83, false), // process_tail_2 at |~|
+    Symbol::Part(38), // process_tail_2 at |~|: step
+    Symbol::Act(46), // process_tail_2 at |~|: @append_process
+    Symbol::Part(111), // process_tail_2 at |~|: process_tail_2
+    Symbol::Line(111, 0, false), // process_tail_2
+    Symbol::Line(112, 73, false), // step_rest_1 at !
+    Symbol::Take(76), // step_rest_1 at !: (
+    Symbol::Part(69), // step_rest_1 at !: terms
+    Symbol::Take(77), // step_rest_1 at !: )
+    Symbol::Line(112, 0, false), // step_rest_1
+    Symbol::Line(113, 74, false), // step_rest_2 at ?
+    Symbol::Take(76), // step_rest_2 at ?: (
+    Symbol::Part(11), // step_rest_2 at ?: names
+    Symbol::Take(77), // step_rest_2 at ?: )
+    Symbol::Line(113, 0, false), // step_rest_2
+    Symbol::Act(13), // step_rest_2: @no_names
+    Symbol::Line(114, 64, false), // and_tail_1 at &
+    Symbol::Part(49), // and_tail_1 at &: unit
+    Symbol::Act(60), // and_tail_1 at &: @and
+    Symbol::Part(114), // and_tail_1 at &: and_tail_1
+    Symbol::Line(114, 0, false), // and_tail_1
+    Symbol::Line(115, 44, false), // or_tail_1 at or
+    Symbol::Part(49), // or_tail_1 at or: unit
+    Symbol::Act(61), // or_tail_1 at or: @or
+    Symbol::Part(115), // or_tail_1 at or: or_tail_1
+    Symbol::Line(115, 0, false), // or_tail_1
+    Symbol::Line(116, 65, false), // implies_tail_1 at =>
+    Symbol::Part(47), // implies_tail_1 at =>: part
+    Symbol::Act(62), // implies_tail_1 at =>: @implies
+    Symbol::Line(116, 0, false), // implies_tail_1
+    Symbol::Line(117, 58, true), // union_tail_1 at \/
+    Symbol::Part(66), // union_tail_1 at \/: factor
+    Symbol::Act(71), // union_tail_1 at \/: @binary
+    Symbol::Part(117), // union_tail_1 at \/: union_tail_1
+    Symbol::Line(117, 0, false), // union_tail_1
+    Symbol::Line(118, 59, true), // intersection_tail_1 at /\
+    Symbol::Part(66), // intersection_tail_1 at /\: factor
+    Symbol::Act(71), // intersection_tail_1 at /\: @binary
+    Symbol::Part(118), // intersection_tail_1 at /\: intersection_tail_1
+    Symbol::Line(118, 0, false), // intersection_tail_1
+    Symbol::Line(119, 60, true), // range_tail_1 at ..
+    Symbol::Part(64), // range_tail_1 at ..: sum
+    Symbol::Act(71), // range_tail_1 at ..: @binary
+    Symbol::Line(119, 0, false), // range_tail_1
+    Symbol::Line(120, 62, false), // terms_1 at ,
+    Symbol::Part(57), // terms_1 at ,: term
+    Symbol::Act(68), // terms_1 at ,: @append_term
+    Symbol::Part(120), // terms_1 at ,: terms_1
+    Symbol::Line(120, 0, false), // terms_1
+    Symbol::Line(121, 31, false), // proofs_1 at PROOF
+    Symbol::Part(71), // proofs_1 at PROOF: obligation
+    Symbol::Part(74), // proofs_1 at PROOF: node
+    Symbol::Take(13), // proofs_1 at PROOF: END
+    Symbol::Act(76), // proofs_1 at PROOF: @append_proof
+    Symbol::Part(121), // proofs_1 at PROOF: proofs_1
+    Symbol::Line(121, 0, false), // proofs_1
+    Symbol::Line(122, 1, true), // obligation_1 at name
+    Symbol::Line(122, 11, true), // obligation_1 at INITIALISATION
+    Symbol::Line(123, 62, false), // node_1 at ,
+    Symbol::Part(86), // node_1 at ,: row
+    Symbol::Act(82), // node_1 at ,: @append_row
+    Symbol::Part(123), // node_1 at ,: node_1
+    Symbol::Line(123, 0, false), // node_1
+    Symbol::Line(124, 62, false), // some_nodes_1 at ,
+    Symbol::Part(74), // some_nodes_1 at ,: node
+    Symbol::Act(80), // some_nodes_1 at ,: @append_node
+    Symbol::Part(124), // some_nodes_1 at ,: some_nodes_1
+    Symbol::Line(124, 0, false), // some_nodes_1
+    Symbol::Line(125, 86, false), // row_1 at -
+    Symbol::Keep(2), // row_1 at -: ^number
+    Symbol::Act(84), // row_1 at -: @minus_row
+    Symbol::Line(125, 2, true), // row_1 at number
+    Symbol::Act(83), // row_1 at number: @row
 ];
 
 /// How many steps each part may take without a token.
