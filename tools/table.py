@@ -92,6 +92,15 @@ class Parser:
             self.alternatives[name] = self.choice()
             if self.at != len(self.tokens):
                 refuse(f'{name}: {self.tokens[self.at]} is out of place')
+            self.spare(name)
+
+    def spare(self, name):
+        """A part that is but one [ ] or ( )* needs no other part for it."""
+        found = self.alternatives[name]
+        if len(found) == 1 and len(found[0]) == 1 and found[0][0][1] in self.made.values():
+            inner = found[0][0][1]
+            self.alternatives[name] = [[('Part', name) if s == ('Part', inner) else s for s in a]
+                                       for a in self.alternatives[inner]]
 
     def class_of(self, spelling):
         if spelling not in self.classes:
@@ -462,6 +471,7 @@ class Writer:
             'src/classes.rt': self.classes_file(),
             'src/parts.rt': self.parts_file(),
             'specs/Classes.antt': self.class_definitions(),
+            'specs/Numbers.antt': self.part_numbers(),
             'specs/Parts.antt': self.part_definitions(),
             'specs/Signatures.antt': self.signatures(),
             'proofs/Hinted.antt': self.hints(),
@@ -575,6 +585,12 @@ class Writer:
                 '    ensures { result ≡ number_of part }', '{', '    match part {']
         out += [f'        Part::{variant} => {table.number[part]},' for variant, part in self.grammar.reads]
         return '\n'.join(out + ['    }', '}', ''])
+
+    def part_numbers(self):
+        out = [f'-- The numbers of the parts in the table. {self.NOTE}', 'use Rattle.std.specs.Prelude.{ℕ}']
+        for number, name in enumerate(self.table.names, 1):
+            out += ['', f'abbrev pub {name} : ℕ', f'{name} = {number}']
+        return '\n'.join(out + [''])
 
     def part_definitions(self):
         table = self.table

@@ -8,3 +8,6 @@ pub mod Deciding
 pub mod Leading
 pub mod Plain
 pub mod Fronts
+pub mod Lines
+pub mod Splitting
+pub mod Repeating

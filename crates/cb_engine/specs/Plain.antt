@@ -103,6 +103,12 @@ alone_found all (Part x ∷ g) n c l e f = alone_found all g n c l e f
 alone_found all (Gives x ∷ g) n c l e f = alone_found all g n c l e f
 alone_found all (Then x y ∷ g) n c l e f = alone_found all g n c l e f
 
+-- the line that stands there is the one that is found
+pub only_found : (front back : List Symbol) (n c : ℕ) (keep : Bool) → each_alone (front ++ Line n c keep ∷ back) (front ++ Line n c keep ∷ back) ≡ true → find_line (front ++ Line n c keep ∷ back) n c ≡ Some (keep, body back)
+only_found front back n c keep e =
+    let a : alone (front ++ Line n c keep ∷ back) n c ≡ true = alone_at (front ++ Line n c keep ∷ back) front back n c keep e in
+    only_one front back n c keep (same (lines_with (front ++ Line n c keep ∷ back) n c) 1 (both a).0)
+
 pub plain : (front back : List Symbol) (n c d : ℕ) (keep : Bool) → each_alone (front ++ Line n c keep ∷ back) (front ++ Line n c keep ∷ back) ≡ true → d ≢ 0 → (c ≡ d) ⊎ (c ≡ group d) → keyed_in (front ++ Line n c keep ∷ back) n d ≡ Some (keep, body back)
 plain front back n c zero keep e z w = absurd (z refl)
 plain front back n c (suc d) keep e z (inl w) =

@@ -3,3 +3,4 @@ pub mod PartsFit
 pub mod Fine
 pub mod Words
 pub mod Answering
+pub mod Lining

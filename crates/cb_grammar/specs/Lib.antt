@@ -5,3 +5,5 @@ pub mod Depth
 pub mod Parts
 pub mod Signatures
 pub mod Misreadings
+pub mod Numbers
+pub mod Written

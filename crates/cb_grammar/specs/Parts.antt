@@ -11,8 +11,8 @@ number_of part.Proofs = 3
 number_of part.Machine = 10
 number_of part.Channels = 29
 number_of part.Controller = 32
-number_of part.Formula = 42
-number_of part.Term = 57
+number_of part.Formula = 44
+number_of part.Term = 59
 number_of part.Domain = 24
 
 -- the kinds of the values that it leaves, the last one first

@@ -353,6 +353,10 @@ parts =
     signature false ([]) (17 ∷ []) [] ∷
     -- process_tail
     signature false (17 ∷ []) (17 ∷ []) [] ∷
+    -- more_external
+    signature false (18 ∷ []) (18 ∷ []) [] ∷
+    -- more_internal
+    signature false (18 ∷ []) (18 ∷ []) [] ∷
     -- step
     signature false ([]) (17 ∷ []) [] ∷
     -- step_rest
@@ -473,8 +477,6 @@ parts =
     signature false (3 ∷ []) (3 ∷ []) [] ∷
     -- names_1
     signature false (7 ∷ []) (7 ∷ []) [] ∷
-    -- more_results_1
-    signature false (8 ∷ []) (8 ∷ []) [] ∷
     -- substitution_1
     signature false (10 ∷ []) (10 ∷ []) [] ∷
     -- simple_1
@@ -497,26 +499,10 @@ parts =
     signature false (16 ∷ []) (16 ∷ []) [] ∷
     -- parameter_1
     signature false (1 ∷ []) (15 ∷ []) [] ∷
-    -- process_tail_1
-    signature false (18 ∷ []) (18 ∷ []) [] ∷
-    -- process_tail_2
-    signature false (18 ∷ []) (18 ∷ []) [] ∷
     -- step_rest_1
     signature false (22 ∷ []) (22 ∷ []) [] ∷
     -- step_rest_2
     signature false ([]) (7 ∷ []) [] ∷
-    -- and_tail_1
-    signature false (20 ∷ []) (20 ∷ []) [] ∷
-    -- or_tail_1
-    signature false (20 ∷ []) (20 ∷ []) [] ∷
-    -- implies_tail_1
-    signature false (20 ∷ []) (20 ∷ []) [] ∷
-    -- union_tail_1
-    signature false (21 ∷ []) (21 ∷ []) [] ∷
-    -- intersection_tail_1
-    signature false (21 ∷ []) (21 ∷ []) [] ∷
-    -- range_tail_1
-    signature false (21 ∷ []) (21 ∷ []) [] ∷
     -- terms_1
     signature false (22 ∷ []) (22 ∷ []) [] ∷
     -- proofs_1

@@ -8,6 +8,7 @@
 pub mod actions;
 mod classes;
 pub mod depth;
+pub mod laws;
 pub mod parts;
 pub mod reading;
 pub mod table;

@@ -37,8 +37,8 @@ pub(crate) fn number_of_part(part: Part) -> u8
         Part::Machine => 10,
         Part::Channels => 29,
         Part::Controller => 32,
-        Part::Formula => 42,
-        Part::Term => 57,
+        Part::Formula => 44,
+        Part::Term => 59,
         Part::Domain => 24,
     }
 }

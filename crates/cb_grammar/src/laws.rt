@@ -1,0 +1,28 @@
+//! Lines of the grammar as one usually writes them. Each function does nothing: its contract is a law of the table,
+//! that the table's pieces spell what the line spells, and write the same for it.
+
+ghost use Rattle.cb_grammar.specs.Written.{SubstitutionIsWritten, PartIsWritten, ProductIsWritten, SumIsWritten};
+
+/// A substitution is one or more simple ones with `||` between them.
+pub fn substitution_is_written()
+    ensures { SubstitutionIsWritten }
+{
+}
+
+/// A part of a formula is a unit, or units with `&` between them, or units with `or` between them.
+pub fn part_is_written()
+    ensures { PartIsWritten }
+{
+}
+
+/// A product is factors with `*`, `/` or `mod` between them.
+pub fn product_is_written()
+    ensures { ProductIsWritten }
+{
+}
+
+/// A sum is products with `+` or `-` between them.
+pub fn sum_is_written()
+    ensures { SumIsWritten }
+{
+}
