@@ -7,11 +7,17 @@ use Rattle.cb_engine.specs.declared.Symbol.TheVariants.{Take, Keep, Act, Part}
 use Rattle.cb_engine.specs.declared.Terminal.{Terminal}
 use Rattle.cb_engine.specs.declared.Item.{Item}
 use Rattle.cb_engine.specs.Rules.{Spells}
-use Rattle.cb_engine.specs.Lines.{Repeated}
+use Rattle.cb_engine.specs.Lines.{alternatives, OneOf, Repeated}
+use Rattle.cb_grammar.specs.declared.table.TheConstants.{GRAMMAR}
 use Rattle.cb_grammar.specs.declared.actions.TheConstants as action
 use Rattle.cb_grammar.specs.Classes.{keyword_class, sign_class}
 use Rattle.cb_grammar.specs.Numbers as part
 use Rattle.cb_grammar.specs.Misreadings.{language}
+
+-- A part spells exactly what one of its lines in the table spells: the table is a grammar as one reads it, in which the
+-- order of the lines says nothing and each line counts.
+abbrev pub LinesArePlain : Type 0
+LinesArePlain = (n : ℕ) (k : List Symbol) (ts : List Terminal) (out : List Item) → Spells language (Part n ∷ k) ts out ↔ OneOf (λ a. Spells language (a ++ k) ts out) (alternatives GRAMMAR n)
 
 -- The part spells exactly what the alternatives of the line spell, and writes the same for it.
 abbrev pub IsWritten : ℕ → (List Symbol → Type 0) → Type 0
@@ -88,3 +94,9 @@ ProductIsWritten = IsWritten part.product ProductLine
 
 abbrev pub SumIsWritten : Type 0
 SumIsWritten = IsWritten part.sum SumLine
+
+abbrev pub FormulaIsWritten : Type 0
+FormulaIsWritten = IsWritten part.formula FormulaLine
+
+abbrev pub ProcessIsWritten : Type 0
+ProcessIsWritten = IsWritten part.process ProcessLine

@@ -1,7 +1,13 @@
 //! Lines of the grammar as one usually writes them. Each function does nothing: its contract is a law of the table,
 //! that the table's pieces spell what the line spells, and write the same for it.
 
-ghost use Rattle.cb_grammar.specs.Written.{SubstitutionIsWritten, PartIsWritten, ProductIsWritten, SumIsWritten};
+ghost use Rattle.cb_grammar.specs.Written.{LinesArePlain, SubstitutionIsWritten, PartIsWritten, FormulaIsWritten, ProductIsWritten, SumIsWritten, ProcessIsWritten};
+
+/// A part spells what one of its lines in the table spells, whatever stands behind it.
+pub fn lines_are_plain()
+    ensures { LinesArePlain }
+{
+}
 
 /// A substitution is one or more simple ones with `||` between them.
 pub fn substitution_is_written()
@@ -15,6 +21,12 @@ pub fn part_is_written()
 {
 }
 
+/// A formula is a part, or two parts with `=>` between them, or two units with `<=>` between them.
+pub fn formula_is_written()
+    ensures { FormulaIsWritten }
+{
+}
+
 /// A product is factors with `*`, `/` or `mod` between them.
 pub fn product_is_written()
     ensures { ProductIsWritten }
@@ -24,5 +36,11 @@ pub fn product_is_written()
 /// A sum is products with `+` or `-` between them.
 pub fn sum_is_written()
     ensures { SumIsWritten }
+{
+}
+
+/// A process is a step, or steps with `[]` between them, or steps with `|~|` between them; a chain is one list.
+pub fn process_is_written()
+    ensures { ProcessIsWritten }
 {
 }
