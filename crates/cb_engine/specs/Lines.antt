@@ -1,15 +1,15 @@
 -- A part spells what one of its alternatives spells, so that its lines can be read as those of a plain grammar.
-use Rattle.std.specs.Prelude.{◌≡◌, ◌≤◌, ◌<◌, ◌↔◌, ℕ, zero, suc, ◌+◌, Bool, true, false, ◌||◌, ◌&&◌, eqb, List, [], ◌∷◌, ◌++◌, Option, Some, None, refl, if◌then◌else◌, length}
-use Rattle.std.proofs.Common.{arith, cond, ◌⊎◌, inl, inr, subst, sym, ap, ◌∙◌, ◌≢◌, append_assoc}
+use Rattle.std.specs.Prelude.{◌≡◌, ◌<◌, ℕ, zero, suc, Bool, true, false, ◌||◌, ◌&&◌, eqb, List, [], ◌∷◌, ◌++◌, Option, Some, None, refl, if◌then◌else◌}
+use Rattle.std.proofs.Common.{arith, cond, ◌⊎◌, inl, inr, subst, sym, ap, ◌≢◌}
 use Rattle.cb_engine.specs.declared.Symbol.{Symbol}
 use Rattle.cb_engine.specs.declared.Symbol.TheVariants.{Take, Keep, Act, Part, Gives, Then, Line}
 use Rattle.cb_engine.specs.declared.Terminal.{Terminal}
 use Rattle.cb_engine.specs.declared.Item.{Item}
-use Rattle.cb_engine.specs.declared.Item.TheVariants.{Word, Do}
-use Rattle.cb_engine.specs.Rules.{Rules, Runs, Spells, group, admits, chosen, kept}
+use Rattle.cb_engine.specs.declared.Item.TheVariants.{Word}
+use Rattle.cb_engine.specs.Rules.{Runs, group, admits, kept}
 use Rattle.cb_engine.specs.Rules.Runs.{ends, takes, keeps, acts, keys, others, goes_on}
 use Rattle.cb_engine.specs.Tables.{body, find_line, rules_of, body_of, keyed_in, either}
-use Rattle.cb_engine.specs.Deciding.{both, body_some, no_zero}
+use Rattle.cb_engine.specs.Deciding.{body_some, no_zero}
 use Rattle.cb_engine.specs.Plain.{each_alone, plain, only_found}
 
 -- what an alternative spells: its key, if it has one, and what it goes on with
@@ -117,11 +117,14 @@ module _ (g : List Symbol) (alone : each_alone g g ≡ true) where
     where
       itself : admits (suc d) t.class ≡ true
       itself = rw (w, self (suc d)) refl
+
       its_group : admits (group (suc d)) t.class ≡ true
       its_group = rw w (or_right (eqb (group (suc d)) (suc d)) (eqb (group (suc d)) (group (suc d))) (self (group (suc d))))
+
       positive : (x : ℕ) → (x ≡ 0 → ⊥) → 0 < x
       positive zero never = absurd (never refl)
       positive (suc x) never = omega arith
+
       go : (o : Option (Bool × List Symbol)) → find_line g n (suc d) ≡ o → either o (find_line g n (group (suc d))) ≡ Some (keep, b) → OneOf (After k (t ∷ ts) (kept keep t out)) (alternatives g n)
       go None f q = keyed n (group (suc d)) k t ts out keep b (positive (group (suc d)) (no_zero (suc d) (omega arith))) its_group q m
       go (Some l) f q = let p : l ≡ (keep, b) = cc in keyed n (suc d) k t ts out keep b (omega arith) itself (rw p at f) m

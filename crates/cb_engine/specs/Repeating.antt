@@ -1,17 +1,17 @@
 -- Parts that go on with themselves spell their pieces any number of times.
-use Rattle.std.specs.Prelude.{◌≡◌, ◌<◌, ℕ, zero, suc, ◌+◌, Bool, true, false, ◌&&◌, List, [], ◌∷◌, ◌++◌, refl, length, map}
-use Rattle.std.proofs.Common.{arith, ◌⊎◌, inl, inr, sym, append_assoc}
+use Rattle.std.specs.Prelude.{◌≡◌, ◌<◌, ℕ, zero, suc, Bool, true, ◌&&◌, List, [], ◌∷◌, ◌++◌, refl, length}
+use Rattle.std.proofs.Common.{arith, ◌⊎◌, inl, inr, append_assoc}
 use Rattle.cb_engine.specs.declared.Symbol.{Symbol}
 use Rattle.cb_engine.specs.declared.Symbol.TheVariants.{Take, Keep, Act, Part, Gives, Then, Line}
 use Rattle.cb_engine.specs.declared.Terminal.{Terminal}
 use Rattle.cb_engine.specs.declared.Item.{Item}
-use Rattle.cb_engine.specs.Rules.{Rules, Runs}
+use Rattle.cb_engine.specs.Rules.{Runs}
 use Rattle.cb_engine.specs.Tables.{rules_of}
 use Rattle.cb_engine.specs.Deciding.{both}
 use Rattle.cb_engine.specs.Plain.{each_alone}
 use Rattle.cb_engine.specs.Lines.{alternatives, OneOf, NoThen, Among, Repeated, unfolded, folded}
 use Rattle.cb_engine.specs.Lines.Repeated.{none, more}
-use Rattle.cb_engine.specs.Splitting.{with_token, Split, split, rejoined}
+use Rattle.cb_engine.specs.Splitting.{with_token, split, rejoined}
 
 abbrev pub each_with_token : List (List Symbol) → Bool
 each_with_token [] = true

@@ -1,13 +1,13 @@
 -- What symbols spell one after the other, and what they spell again and again.
-use Rattle.std.specs.Prelude.{◌≡◌, ◌≤◌, ◌<◌, ℕ, zero, suc, ◌+◌, Bool, true, false, List, [], ◌∷◌, ◌++◌, Option, Some, None, refl, length}
-use Rattle.std.proofs.Common.{arith, cond, ◌⊎◌, inl, inr, subst, sym, ap, ◌∙◌, append_assoc}
-use Rattle.std.proofs.lemmas.List.{append-nil, length-append}
+use Rattle.std.specs.Prelude.{◌≡◌, ◌<◌, ◌+◌, Bool, true, false, List, [], ◌∷◌, ◌++◌, refl, length}
+use Rattle.std.proofs.Common.{arith, subst, sym, ap, append_assoc}
+use Rattle.std.proofs.lemmas.List.{length-append}
 use Rattle.cb_engine.specs.declared.Symbol.{Symbol}
-use Rattle.cb_engine.specs.declared.Symbol.TheVariants.{Take, Keep, Act, Part, Gives, Then, Line}
+use Rattle.cb_engine.specs.declared.Symbol.TheVariants.{Take, Keep, Act, Part, Gives, Then}
 use Rattle.cb_engine.specs.declared.Terminal.{Terminal}
 use Rattle.cb_engine.specs.declared.Item.{Item}
 use Rattle.cb_engine.specs.declared.Item.TheVariants.{Word, Do}
-use Rattle.cb_engine.specs.Rules.{Rules, Runs, Spells, chosen, kept}
+use Rattle.cb_engine.specs.Rules.{Rules, Runs, chosen, kept}
 use Rattle.cb_engine.specs.Rules.Runs.{ends, takes, keeps, acts, keys, others, goes_on}
 use Rattle.cb_engine.specs.Lines.{NoThen}
 
@@ -102,6 +102,7 @@ split {r = r} (keys {n = n} {k = j} {t = t} {ts = ts} {out = out} keep b g m) (s
     kept_both : (keep : Bool) (t : Terminal) (out early late : List Item) → out ≡ early ++ late → kept keep t out ≡ kept keep t early ++ late
     kept_both true t out early late e = ap (λ (y : List Item). Word t ∷ y) e
     kept_both false t out early late e = e
+
     kept_before : (keep : Bool) (t : Terminal) (early o : List Item) → kept keep t early ++ o ≡ kept keep t (early ++ o)
     kept_before true t early o = refl
     kept_before false t early o = refl

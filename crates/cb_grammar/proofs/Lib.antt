@@ -4,3 +4,4 @@ pub mod Fine
 pub mod Words
 pub mod Answering
 pub mod Lining
+pub mod TermLining

@@ -1,20 +1,20 @@
 -- The lines as written and the table's pieces spell the same.
-use Rattle.std.specs.Prelude.{◌≡◌, ◌↔◌, ℕ, true, List, [], ◌∷◌, ◌++◌, refl}
-use Rattle.std.proofs.Common.{◌⊎◌, inl, inr, append_assoc}
+use Rattle.std.specs.Prelude.{◌≡◌, ℕ, true, List, [], ◌∷◌, ◌++◌, refl}
+use Rattle.std.proofs.Common.{inl, inr, append_assoc}
 use Rattle.std.proofs.lemmas.List.{append-nil}
 use Rattle.cb_engine.specs.declared.Symbol.{Symbol}
-use Rattle.cb_engine.specs.declared.Symbol.TheVariants.{Take, Keep, Act, Part, Then}
+use Rattle.cb_engine.specs.declared.Symbol.TheVariants.{Take, Act, Part}
 use Rattle.cb_engine.specs.declared.Terminal.{Terminal}
 use Rattle.cb_engine.specs.declared.Item.{Item}
 use Rattle.cb_lex.specs.declared.token.Sign.TheVariants as sign
-use Rattle.cb_engine.specs.Rules.{Runs, Spells}
+use Rattle.cb_engine.specs.Rules.{Runs}
 use Rattle.cb_engine.specs.Tables.{rules_of}
 use Rattle.cb_engine.specs.Lines.{alternatives, OneOf, NoThen, Repeated, opened, closed, unfolded, folded}
 use Rattle.cb_engine.specs.Splitting.{Split, split, rejoined, behind}
 use Rattle.cb_engine.specs.Repeating.{each_with_token, again, part_no_then, repeated_no_then, many, from_many}
 use Rattle.cb_grammar.specs.declared.table.TheConstants.{GRAMMAR}
 use Rattle.cb_grammar.specs.declared.actions.TheConstants as action
-use Rattle.cb_grammar.specs.Classes.{keyword_class, sign_class}
+use Rattle.cb_grammar.specs.Classes.{sign_class}
 use Rattle.cb_grammar.specs.Numbers as part
 use Rattle.cb_grammar.specs.Misreadings.{language}
 use Rattle.cb_grammar.specs.Written.{LinesArePlain, IsWritten, beside, SubstitutionLine, and_unit, or_unit, PartLine, FormulaLine, times_factor, divided_factor, mod_factor, ProductLine, plus_product, minus_product, SumLine, external_step, internal_step, ProcessLine}
@@ -46,13 +46,13 @@ written n Line q ts out = (λ m. let r = q.reads [] ts out m in (r.0, (r.1.0, si
 
 -- a part of pieces, behind other symbols
 module _ (n : ℕ) (ws : List (List Symbol)) (t : each_with_token ws ≡ true) (e : alternatives GRAMMAR n ≡ again n ws) where
-  many_behind : (u k : List Symbol) (ts : List Terminal) (out : List Item) → Run (u ++ (Part n ∷ k)) ts out → (x : List Symbol) × (Repeated ws x × Run (u ++ (x ++ k)) ts out)
+  pub many_behind : (u k : List Symbol) (ts : List Terminal) (out : List Item) → Run (u ++ (Part n ∷ k)) ts out → (x : List Symbol) × (Repeated ws x × Run (u ++ (x ++ k)) ts out)
   many_behind u k ts out m =
       let s = split m u (Part n ∷ k) (part_no_then n k) refl in
       let q = many GRAMMAR all_alone n ws t e k s.back s.late s.rest in
       (q.0, (q.1.0, rejoined s (q.0 ++ k) q.1.1))
 
-  behind_many : (u k : List Symbol) → NoThen k → (x : List Symbol) → Repeated ws x → (ts : List Terminal) (out : List Item) → Run (u ++ (x ++ k)) ts out → Run (u ++ (Part n ∷ k)) ts out
+  pub behind_many : (u k : List Symbol) → NoThen k → (x : List Symbol) → Repeated ws x → (ts : List Terminal) (out : List Item) → Run (u ++ (x ++ k)) ts out → Run (u ++ (Part n ∷ k)) ts out
   behind_many u k free x q ts out m = behind u (x ++ k) (Part n ∷ k) (repeated_no_then ws t q k free) (λ us o r. from_many GRAMMAR all_alone n ws t e q k free us o r) ts out m
 
 -- a head and then pieces
@@ -67,6 +67,7 @@ module _ (n head tail : ℕ) (ws : List (List Symbol)) (Line : List Symbol → T
       reads_of : (k : List Symbol) (ts : List Terminal) (out : List Item) → OneOf (λ a. Run (a ++ k) ts out) ((Part head ∷ Part tail ∷ []) ∷ []) → Read Line k ts out
       reads_of k ts out (inl m) = let q = many_behind tail ws t f (Part head ∷ []) k ts out m in (Part head ∷ q.0, (make q.0 q.1.0, q.1.1))
       reads_of k ts out (inr m) = absurd m
+
       spells_of : (w k : List Symbol) → NoThen k → (ts : List Terminal) (out : List Item) → ((x : List Symbol) × (Repeated ws x × w ≡ Part head ∷ x)) → Run (w ++ k) ts out → Run (Part n ∷ k) ts out
       spells_of w k free ts out r m =
           let p : Run (Part head ∷ (r.0 ++ k)) ts out = rw r.1.1 at m in
@@ -110,6 +111,7 @@ part_reads k ts out m = first (opened GRAMMAR all_alone part.part _ part_lines k
         (Part part.unit ∷ or_unit ++ q.0, (disjunction q.0 q.1.0, rejoined s (or_unit ++ (q.0 ++ k)) q.1.1))
     tail s (inr (inr (inl p))) = (Part part.unit ∷ [], (unit, rejoined s k p))
     tail s (inr (inr (inr p))) = absurd p
+
     first : OneOf (λ a. Run (a ++ k) ts out) ((Part part.unit ∷ Part part.part_tail ∷ []) ∷ []) → Read PartLine k ts out
     first (inl p) =
         let s = split p (Part part.unit ∷ []) (Part part.part_tail ∷ k) (part_no_then part.part_tail k) refl in
@@ -167,15 +169,19 @@ formula_reads k ts out m = first (opened GRAMMAR all_alone part.formula _ formul
       where
         q : Split (rules_of GRAMMAR) u (Part part.implies_tail ∷ k) s.back s.late
         q = split p u (Part part.implies_tail ∷ k) (part_no_then part.implies_tail k) refl
+
         whole : (j : List Symbol) → Run j q.back q.late → Run (Part part.part ∷ j) ts out
         whole j r = part_of j ts out (rejoined s (Part part.part_tail ∷ j) (fold j s.back s.late (rejoined q j r)))
+
         behind_it : OneOf (λ a. Run (a ++ k) q.back q.late) (implied ∷ [] ∷ []) → Read FormulaLine k ts out
         behind_it (inl r) = as_line k ts out (inl (whole (implied ++ k) r))
         behind_it (inr (inl r)) = as_line k ts out (inr (inl (whole k r)))
         behind_it (inr (inr r)) = absurd r
+
     -- nothing but a unit
     alone_of : (s : Split (rules_of GRAMMAR) (Part part.unit ∷ []) (Part part.formula_tail ∷ k) ts out) (j : List Symbol) → Run j s.back s.late → Run (Part part.part ∷ j) ts out
     alone_of s j r = part_of j ts out (rejoined s (Part part.part_tail ∷ j) (closed GRAMMAR all_alone part.part_tail _ part_tail_lines j s.back s.late (inr (inr (inl r)))))
+
     tail : (s : Split (rules_of GRAMMAR) (Part part.unit ∷ []) (Part part.formula_tail ∷ k) ts out) → OneOf (λ a. Run (a ++ k) s.back s.late) formula_tails → Read FormulaLine k ts out
     tail s (inl p) = chained s (and_unit ++ Part part.and_tail ∷ []) (λ j us o r. closed GRAMMAR all_alone part.part_tail _ part_tail_lines j us o (inl r)) p
     tail s (inr (inl p)) = chained s (or_unit ++ Part part.or_tail ∷ []) (λ j us o r. closed GRAMMAR all_alone part.part_tail _ part_tail_lines j us o (inr (inl r))) p
@@ -183,6 +189,7 @@ formula_reads k ts out m = first (opened GRAMMAR all_alone part.formula _ formul
     tail s (inr (inr (inr (inl p)))) = (Part part.unit ∷ equal_unit, (equivalence, rejoined s (equal_unit ++ k) p))
     tail s (inr (inr (inr (inr (inl p))))) = as_line k ts out (inr (inl (alone_of s k p)))
     tail s (inr (inr (inr (inr (inr p))))) = absurd p
+
     first : OneOf (λ a. Run (a ++ k) ts out) ((Part part.unit ∷ Part part.formula_tail ∷ []) ∷ []) → Read FormulaLine k ts out
     first (inl p) =
         let s = split p (Part part.unit ∷ []) (Part part.formula_tail ∷ k) (part_no_then part.formula_tail k) refl in
@@ -202,6 +209,7 @@ from_part j k free short long ts out m = first (opened GRAMMAR all_alone part.pa
     tail us o (inr (inl p)) = closed GRAMMAR all_alone part.formula_tail _ formula_tail_lines k us o (inr (inl (behind (or_unit ++ Part part.or_tail ∷ []) j (Part part.implies_tail ∷ k) free short us o p)))
     tail us o (inr (inr (inl p))) = long us o p
     tail us o (inr (inr (inr p))) = absurd p
+
     first : OneOf (λ a. Run (a ++ j) ts out) ((Part part.unit ∷ Part part.part_tail ∷ []) ∷ []) → Run (Part part.formula ∷ k) ts out
     first (inl p) = formula_of k ts out (behind (Part part.unit ∷ []) (Part part.part_tail ∷ j) (Part part.formula_tail ∷ k) (part_no_then part.part_tail j) (λ us o r. tail us o (opened GRAMMAR all_alone part.part_tail _ part_tail_lines j us o r)) ts out p)
     first (inr p) = absurd p
@@ -246,6 +254,7 @@ process_reads k ts out m = first (opened GRAMMAR all_alone part.process _ proces
         (Part part.step ∷ two_internal ++ (q.0 ++ Act action.INTERNAL ∷ []), (internal q.0 q.1.0, rw (append_assoc q.0 (Act action.INTERNAL ∷ []) k) (rejoined s (two_internal ++ (q.0 ++ (Act action.INTERNAL ∷ k))) q.1.1)))
     tail s (inr (inr (inl p))) = (Part part.step ∷ [], (step, rejoined s k p))
     tail s (inr (inr (inr p))) = absurd p
+
     first : OneOf (λ a. Run (a ++ k) ts out) ((Part part.step ∷ Part part.process_tail ∷ []) ∷ []) → Read ProcessLine k ts out
     first (inl p) =
         let s = split p (Part part.step ∷ []) (Part part.process_tail ∷ k) (part_no_then part.process_tail k) refl in

@@ -3,7 +3,7 @@ use Rattle.std.specs.Prelude.{◌≡◌, ◌↔◌, ℕ, List, [], ◌∷◌, �
 use Rattle.cb_lex.specs.declared.token.Keyword.TheVariants as keyword
 use Rattle.cb_lex.specs.declared.token.Sign.TheVariants as sign
 use Rattle.cb_engine.specs.declared.Symbol.{Symbol}
-use Rattle.cb_engine.specs.declared.Symbol.TheVariants.{Take, Keep, Act, Part}
+use Rattle.cb_engine.specs.declared.Symbol.TheVariants.{Take, Keep, Act, Part, Then}
 use Rattle.cb_engine.specs.declared.Terminal.{Terminal}
 use Rattle.cb_engine.specs.declared.Item.{Item}
 use Rattle.cb_engine.specs.Rules.{Spells}
@@ -42,6 +42,32 @@ pub data PartLine : List Symbol → Type 0 where
   conjunction : (x : List Symbol) → Repeated (and_unit ∷ []) x → PartLine (Part part.unit ∷ and_unit ++ x)
   disjunction : (x : List Symbol) → Repeated (or_unit ∷ []) x → PartLine (Part part.unit ∷ or_unit ++ x)
 
+abbrev pub opening : Symbol
+opening = Take (sign_class sign.OpenParenthesis)
+
+abbrev pub closing : Symbol
+closing = Take (sign_class sign.CloseParenthesis)
+
+abbrev pub dot : Symbol
+dot = Take (sign_class sign.Dot)
+
+-- unit = btrue | bfalse | not "(" formula ")" | "(" formula ")" | term relation
+--     | "!" name "." "(" part "=>" part ")" | "#" name "." "(" part ")"
+-- Behind `(` the part formula_or_term reads either, and goes on with after_formula or after_term. A term that begins with
+-- no parenthesis begins with factor_start.
+abbrev pub unit_lines : List (List Symbol)
+unit_lines =
+    (Take (keyword_class keyword.AlwaysTrue) ∷ Act action.ALWAYS_TRUE ∷ []) ∷
+    (Take (keyword_class keyword.AlwaysFalse) ∷ Act action.ALWAYS_FALSE ∷ []) ∷
+    (Take (keyword_class keyword.Not) ∷ opening ∷ Part part.formula ∷ closing ∷ Act action.NOT ∷ []) ∷
+    (Take (sign_class sign.Bang) ∷ Keep 1 ∷ dot ∷ opening ∷ Part part.part ∷ Take (sign_class sign.Implies) ∷ Part part.part ∷ closing ∷ Act action.FOR_ALL ∷ []) ∷
+    (Take (sign_class sign.Hash) ∷ Keep 1 ∷ dot ∷ opening ∷ Part part.part ∷ closing ∷ Act action.EXISTS ∷ []) ∷
+    (opening ∷ Part part.formula_or_term ∷ Then part.after_formula part.after_term ∷ []) ∷
+    (Part part.factor_start ∷ Part part.term_tail ∷ Part part.relation ∷ []) ∷ []
+
+abbrev pub UnitLines : Type 0
+UnitLines = alternatives GRAMMAR part.unit ≡ unit_lines
+
 -- formula = part | part "=>" part | unit "<=>" unit
 pub data FormulaLine : List Symbol → Type 0 where
   plain : FormulaLine (Part part.part ∷ [])
@@ -70,6 +96,22 @@ minus_product = Keep (sign_class sign.Minus) ∷ Part part.product ∷ Act actio
 
 pub data SumLine : List Symbol → Type 0 where
   sum : (x : List Symbol) → Repeated (plus_product ∷ minus_product ∷ []) x → SumLine (Part part.product ∷ x)
+
+-- term = sum | sum ".." sum | factor ("\/" factor)+ | factor ("/\" factor)+
+abbrev pub to_sum : List Symbol
+to_sum = Keep (sign_class sign.UpTo) ∷ Part part.sum ∷ Act action.BINARY ∷ []
+
+abbrev pub union_factor : List Symbol
+union_factor = Keep (sign_class sign.Union) ∷ Part part.factor ∷ Act action.BINARY ∷ []
+
+abbrev pub intersection_factor : List Symbol
+intersection_factor = Keep (sign_class sign.Intersection) ∷ Part part.factor ∷ Act action.BINARY ∷ []
+
+pub data TermLine : List Symbol → Type 0 where
+  sum : TermLine (Part part.sum ∷ [])
+  range : TermLine (Part part.sum ∷ to_sum)
+  union : (x : List Symbol) → Repeated (union_factor ∷ []) x → TermLine (Part part.factor ∷ union_factor ++ x)
+  intersection : (x : List Symbol) → Repeated (intersection_factor ∷ []) x → TermLine (Part part.factor ∷ intersection_factor ++ x)
 
 -- process = step | step ("[]" step)+ | step ("|~|" step)+
 abbrev pub external_step : List Symbol
@@ -100,3 +142,6 @@ FormulaIsWritten = IsWritten part.formula FormulaLine
 
 abbrev pub ProcessIsWritten : Type 0
 ProcessIsWritten = IsWritten part.process ProcessLine
+
+abbrev pub TermIsWritten : Type 0
+TermIsWritten = IsWritten part.term TermLine
