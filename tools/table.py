@@ -259,9 +259,7 @@ class Table:
                 for symbol in itertools.chain(*self.alternatives[name]):
                     if symbol[0] in ('Part', 'Then'):
                         todo += symbol[1:]
-        unused = [name for name in self.grammar.parts if name not in seen]
-        # a part that was unfolded wherever it stands has no lines of its own
-        return [name for name in self.alternatives if name in seen and name not in unused]
+        return [name for name in self.alternatives if name in seen]
 
     def lowered(self, symbol):
         if symbol[0] in ('Part', 'Then'):
