@@ -4,13 +4,14 @@ ghost use Rattle.cb_edge.specs.Edge.{StaysSure};
 ghost use Rattle.cb_top.specs.Change.{sources};
 ghost use Rattle.cb_top.specs.Joined.{joined, AreHeld};
 ghost use Rattle.cb_top.specs.Stop.{HasFileCause};
-ghost use Rattle.cb_top.specs.Outcome.{answer_of, ill_formed, place_text, IsJudged, IsOutcome, read_line};
+ghost use Rattle.cb_top.specs.Outcome.{answer_of, ill_formed, place_text, syntax_answer, IsJudged, IsReadAndJudged, IsOutcome, read_line};
 
 use crate::MAX_BYTES;
 use crate::outcome::{Outcome, Refusal, Stop};
 use crate::sources::{Unread, read_files};
 use crate::thin::{Judged, judge};
 use cb_edge::Files;
+use cb_grammar::{Part, SyntaxFault, read_part};
 use cb_lex::lexer::{LexFault, tokens};
 use cb_lex::token::{Place, Token};
 use cb_words::Request;
@@ -73,7 +74,29 @@ fn judge_bytes(alloc: Global, request: &Request, bytes: &[u8]) -> Result<Outcome
 }
 
 // The outcome of the tokens of a text.
-fn judge_tokens(alloc: Global, _request: &Request, tokens: &[Token]) -> Result<Outcome, AllocError>
+fn judge_tokens(alloc: Global, request: &Request, tokens: &[Token]) -> Result<Outcome, AllocError>
+    ensures { IfOk result (λ o. IsReadAndJudged request.now tokens.now (answer_of o)) }
+{
+    match read_part(alloc, tokens, Part::Whole, 0, false) {
+        Ok(_written) => judge_text(alloc, request, tokens),
+        Err(fault) => misread(alloc, fault),
+    }
+}
+
+// The outcome of a fault of the syntax.
+fn misread(alloc: Global, fault: SyntaxFault) -> Result<Outcome, AllocError>
+    ensures { IfOk result (λ o. answer_of o ≡ syntax_answer fault) }
+{
+    match fault {
+        SyntaxFault::Syntax(place) => placed_fault(alloc, b"Syntax ", place),
+        SyntaxFault::Mixed(place) => placed_fault(alloc, b"Mixed ", place),
+        SyntaxFault::Deep(place) => placed_fault(alloc, b"Deep ", place),
+        SyntaxFault::Memory => Err(AllocError),
+    }
+}
+
+// The outcome of the tokens of a text that the grammar spells.
+fn judge_text(alloc: Global, _request: &Request, tokens: &[Token]) -> Result<Outcome, AllocError>
     ensures { IfOk result (λ o. IsJudged _request.now tokens.now (answer_of o)) }
 {
     match judge(alloc, tokens)? {

@@ -80,11 +80,25 @@ fn judges_texts(rt: HostRuntime) -> Result<(), Fail> {
         "INIT:Box:1 proved\nOP:Box:add:1 missing\nOP:Box:take:1 proved\nrefused: 1 of 3 obligations\n";
     let bad =
         "INIT:Box:1 proved\nOP:Box:add:1 bad 4\nOP:Box:take:1 proved\nrefused: 1 of 3 obligations\n";
-    let rows: [(&[&str], (u8, &str, &str)); 9] = [
+    let rows: [(&[&str], (u8, &str, &str)); 12] = [
         (&[HEAD, GUARD, TAIL, INIT, ADD, TAKE], (0, PROVED, "")),
         (&[HEAD, GUARD, TAIL, INIT, TAKE], (1, missing, "")),
         (&[HEAD, TAIL, INIT, ADD, TAKE], (1, bad, "")),
-        (&[], (2, "", "fault Form\n")),
+        (&[], (2, "", "fault Syntax 1:1\n")),
+        (
+            &["MACHINE M OPERATIONS o = PRE"],
+            (2, "", "fault Syntax 1:29\n"),
+        ),
+        (
+            &[
+                "MACHINE M VARIABLES n INVARIANT n : 0..9 & n < 9 or n = 9 INITIALISATION n := 0 END",
+            ],
+            (2, "", "fault Mixed 1:50\n"),
+        ),
+        (
+            &["MACHINE M OPERATIONS o = CHOICE skip OR skip END END"],
+            (2, "", "fault Form\n"),
+        ),
         (
             &[HEAD, GUARD, TAIL, INIT, "PROOF OP:Box:add:9 EVAL END"],
             (2, "", "fault UnknownProof OP:Box:add:9\n"),

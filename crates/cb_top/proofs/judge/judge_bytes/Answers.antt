@@ -4,15 +4,15 @@ use Rattle.cb_lex.specs.Lexes.{Lexes, start}
 use Rattle.cb_lex.specs.declared.lexer.LexFault.TheVariants.{BadByte, LongNumber, OpenComment}
 use Rattle.cb_lex.specs.declared.token.Token.{Token}
 use Rattle.cb_words.specs.declared.request.Request.{Request}
-use Rattle.cb_top.specs.Outcome.{Answer, IsJudged, IsOutcome, judged, lexical}
+use Rattle.cb_top.specs.Outcome.{Answer, IsReadAndJudged, IsOutcome, cut, lexical}
 use Rattle.cb_top.specs.declared.TheConstants.{MAX_BYTES}
 use Rattle.cb_top.proofs.judge.judge_bytes.Goals as goal
 
 -- the tokens that were judged are those of the text
 of_tokens : (request : Request) (bytes : List ℕ) (answer : Answer) (shown tokens : List Token) → length bytes ≤ MAX_BYTES →
-    shown ≡ tokens → Lexes bytes start (Ok tokens) → IsJudged request shown answer → IsOutcome request bytes answer
-of_tokens request bytes answer shown tokens fits e cut judges =
-    let P : List Token → Type 0 = λ ts. IsJudged request ts answer in judged fits tokens cut (subst P e judges)
+    shown ≡ tokens → Lexes bytes start (Ok tokens) → IsReadAndJudged request shown answer → IsOutcome request bytes answer
+of_tokens request bytes answer shown tokens fits e cuts judges =
+    let P : List Token → Type 0 = λ ts. IsReadAndJudged request ts answer in cut fits tokens cuts (subst P e judges)
 
 pub returns-in-Ok : goal.returns-in-Ok
 returns-in-Ok c =

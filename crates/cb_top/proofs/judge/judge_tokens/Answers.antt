@@ -1,15 +1,9 @@
-use Rattle.std.proofs.Common.{refl}
 use Rattle.std.proofs.lemmas.Result.{IfOk-weaker}
-use Rattle.cb_top.specs.Outcome.{verdicts, unknown_proof, double_proof}
+use Rattle.cb_top.specs.Outcome.{refused, spelled}
 use Rattle.cb_top.proofs.judge.judge_tokens.Goals as goal
 
-pub returns-in-Verdicts : goal.returns-in-Verdicts
-returns-in-Verdicts c = verdicts c.in-Verdicts.verdict c.in-Verdicts.text.items refl
+pub returns-in-Ok : goal.returns-in-Ok
+returns-in-Ok c = IfOk-weaker c.judge_text.result _ _ (λ o judges. spelled _ _ c.in-Ok.ensures.reads judges) c.judge_text.ensures
 
-pub returns-in-UnknownProof : goal.returns-in-UnknownProof
-returns-in-UnknownProof c =
-    IfOk-weaker c.fault-in-UnknownProof.result _ _ (λ o h. unknown_proof c.deref.result.now h) c.fault-in-UnknownProof.ensures
-
-pub returns-in-DoubleProof : goal.returns-in-DoubleProof
-returns-in-DoubleProof c =
-    IfOk-weaker c.fault-in-DoubleProof.result _ _ (λ o h. double_proof c.deref-in-DoubleProof.result.now h) c.fault-in-DoubleProof.ensures
+pub returns-in-Err : goal.returns-in-Err
+returns-in-Err c = IfOk-weaker c.misread.result _ _ (λ o e. refused c.in-Err.fault c.in-Err.ensures.fault e) c.misread.ensures
