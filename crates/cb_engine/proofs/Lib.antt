@@ -1,0 +1,4 @@
+pub mod Reaching
+pub mod Moving
+pub mod Turns
+pub mod Indexing

@@ -1,0 +1,13 @@
+pub mod Rules
+pub mod Tables
+pub mod Readings
+pub mod Kinds
+pub mod Indexed
+pub mod Steps
+pub mod Deciding
+pub mod Leading
+pub mod Plain
+pub mod Fronts
+pub mod Lines
+pub mod Splitting
+pub mod Repeating

@@ -1,0 +1,7 @@
+-- The names of the files of a request.
+use Rattle.std.specs.Prelude.{ℕ, List}
+use Rattle.cb_words.specs.declared.request.Request.{Request}
+use Rattle.cb_words.specs.declared.request.Request.TheVariants.{Check}
+
+abbrev pub names_of : Request → List (List ℕ)
+names_of (Check files) = files

@@ -1,0 +1,16 @@
+//! The commands, from the words of a command line to what is printed.
+#![tactic(auto)]
+
+mod commands;
+mod judge;
+mod outcome;
+mod print;
+mod sources;
+#[cfg(test)]
+mod tests;
+mod thin;
+
+pub use commands::{command, quiet_command};
+
+/// The most bytes that the files of a request may have, joined.
+pub const MAX_BYTES: u64 = 4_194_304;

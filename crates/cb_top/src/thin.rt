@@ -1,0 +1,71 @@
+//! The judging of one machine whose formulas are conjunctions of relations between sums.
+
+mod formula;
+mod machine;
+mod proof;
+mod reader;
+mod rule;
+mod verdicts;
+
+use crate::outcome::Verdict;
+use crate::thin::machine::read_machine;
+use crate::thin::proof::read_proofs;
+use crate::thin::reader::Reader;
+use crate::thin::verdicts::{Assigned, assign_proofs, print_verdicts};
+use cb_lex::token::Token;
+use std::alloc::{AllocError, AllocFailed, Global};
+
+/// The most items of one list that is read: names, operands, relations, operations.
+const MOST_ITEMS: usize = 64;
+
+/// Why a part of a text isn't read, or a rule not applied: it doesn't fit, or want of memory.
+#[derive(Clone, Copy)]
+enum Misfit {
+    Unfit,
+    Memory,
+}
+
+impl From<AllocError> for Misfit {
+    fn from(_fault: AllocError) -> Misfit {
+        Misfit::Memory
+    }
+}
+
+impl<T: Drop> From<AllocFailed<T>> for Misfit {
+    fn from(_fault: AllocFailed<T>) -> Misfit {
+        Misfit::Memory
+    }
+}
+
+/// What the tokens of a text come to.
+#[derive(Drop)]
+pub(crate) enum Judged {
+    /// The verdict of each obligation and the one of all, printed.
+    Verdicts { verdict: Verdict, text: Vec<u8> },
+    /// The text isn't one that can be read here.
+    Unread,
+    /// The name of the first proof that belongs to no obligation.
+    UnknownProof(Vec<u8>),
+    /// The name of the first proof whose obligation had one before.
+    DoubleProof(Vec<u8>),
+}
+
+/// Reads a machine with its proofs, and checks them.
+pub(crate) fn judge(alloc: Global, tokens: &[Token]) -> Result<Judged, AllocError> {
+    match read_and_check(alloc, tokens) {
+        Ok(judged) => Ok(judged),
+        Err(Misfit::Unfit) => Ok(Judged::Unread),
+        Err(Misfit::Memory) => Err(AllocError),
+    }
+}
+
+fn read_and_check(alloc: Global, tokens: &[Token]) -> Result<Judged, Misfit> {
+    let mut reader = Reader::new(tokens);
+    let machine = read_machine(alloc, &mut reader)?;
+    let proofs = read_proofs(alloc, &mut reader)?;
+    match assign_proofs(alloc, &machine, &proofs)? {
+        Assigned::Rules(rules) => Ok(print_verdicts(alloc, &machine, &rules)?),
+        Assigned::Unknown(name) => Ok(Judged::UnknownProof(name)),
+        Assigned::Double(name) => Ok(Judged::DoubleProof(name)),
+    }
+}
