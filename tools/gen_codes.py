@@ -1,12 +1,10 @@
 #!/usr/bin/env python3
-"""Writes crates/cb_term/specs/Codes.antt: how the logic stores terms and formulas.
+"""Writes the files specs/Codes.antt: how the logic stores terms and formulas, and certificates.
 
-For each constructor of the trees in crates/cb_term/specs/Tree.antt there is a line in the tables below, with the
-kinds of its fields. A tree is stored as its constructor's place in its table, paired with the codes of its fields;
-the file also has the proof that trees with the same code are the same. Run it at the top of the repository.
+For each constructor of the trees in the crate's specs/Tree.antt there is a line in the tables below, with the kinds
+of its fields. A tree is stored as its constructor's place in its table, paired with the codes of its fields; the file
+also has the proof that trees with the same code are the same. Run it at the top of the repository.
 """
-
-TARGET = "crates/cb_term/specs/Codes.antt"
 
 TERM = [
     ("Var", ["name"]),
@@ -35,8 +33,17 @@ FORMULA = [
     ("Every", ["name", "kind", "formula"]),
     ("Exist", ["name", "kind", "formula"]),
 ]
-# name in the file, its type, its constructors
-TREES = [("term", "TermTree", TERM), ("terms", "TermTrees", TERMS), ("formula", "FormulaTree", FORMULA)]
+CERT = [("Node", ["rule", "certs"])]
+CERTS = [("End", []), ("More", ["cert", "certs"])]
+# the crate; its trees, each with its name in the file, its type and its constructors; those that the file makes public
+FILES = [
+    (
+        "cb_term",
+        [("term", "TermTree", TERM), ("terms", "TermTrees", TERMS), ("formula", "FormulaTree", FORMULA)],
+        ["term", "formula"],
+    ),
+    ("cb_seq", [("cert", "CertTree", CERT), ("certs", "CertTrees", CERTS)], ["cert"]),
+]
 
 # what is stored by a coding that the logic or the check already has
 LEAVES = {
@@ -44,21 +51,28 @@ LEAVES = {
     "kind": "kind.the_row.coded",
     "term_sign": "term_sign.the_row.coded",
     "rel_sign": "rel_sign.the_row.coded",
+    "rule": "rule.the_row.coded",
     "nat": "coded_ℕ",
     "int": "coded_ℤ",
     "bool": "coded_bool",
 }
 
+# where the codings that the check makes stand
+MODULES = {
+    "name": "cb_term.specs.contracts.name.Name",
+    "kind": "cb_term.specs.contracts.kind.Kind",
+    "term_sign": "cb_term.specs.contracts.sign.TermSign",
+    "rel_sign": "cb_term.specs.contracts.sign.RelSign",
+    "rule": "cb_seq.specs.contracts.rule.Rule",
+}
+
 HEAD = """\
 -- How the logic stores trees. Written by tools/gen_codes.py: change that, and not this file.
 use Rattle.std.proofs.Common.{◌≡◌, ◌≢◌, ℕ, refl, ap, arith}
-use Rattle.std.specs.Coded.{Coded, coded_ℕ, coded_ℤ, coded_bool}
+use Rattle.std.specs.Coded.{%s}
 use base.Stored.{Gv, gnil, gnum, gcons}
-use Rattle.cb_term.specs.contracts.name.Name as name
-use Rattle.cb_term.specs.contracts.kind.Kind as kind
-use Rattle.cb_term.specs.contracts.sign.TermSign as term_sign
-use Rattle.cb_term.specs.contracts.sign.RelSign as rel_sign
-use Rattle.cb_term.specs.Tree.{%s}
+%s
+use Rattle.%s.specs.Tree.{%s}
 
 abbrev head : Gv → Gv
 head gnil = gnil
@@ -75,11 +89,8 @@ apart m n p other = other (cc)
 """
 
 TAIL = """\
-abbrev pub coded_term : Coded TermTree
-coded_term = record { code = term_code; inj = term_inj }
-
-abbrev pub coded_formula : Coded FormulaTree
-coded_formula = record { code = formula_code; inj = formula_inj }
+abbrev pub coded_%s : Coded %s
+coded_%s = record { code = %s_code; inj = %s_inj }
 """
 
 
@@ -121,26 +132,41 @@ def same(name, fields):
     return f"λ i. {name} {' '.join(parts)}"
 
 
-def lines():
-    names = ", ".join(part for _, kind, table in TREES for part in [kind] + [name for name, _ in table])
-    yield HEAD % names
+def used(trees):
+    """The codings that these trees take from elsewhere, in the order of the table."""
+    fields = {field for _, _, table in trees for _, parts in table for field in parts}
+    return [leaf for leaf in LEAVES if leaf in fields]
+
+
+def head(crate, trees):
+    leaves = used(trees)
+    plain = ["Coded"] + [LEAVES[leaf] for leaf in leaves if leaf not in MODULES]
+    modules = [f"use Rattle.{MODULES[leaf]} as {leaf}" for leaf in leaves if leaf in MODULES]
+    names = [part for _, kind, table in trees for part in [kind] + [name for name, _ in table]]
+    return HEAD % (", ".join(plain), "\n".join(modules), crate, ", ".join(names))
+
+
+def lines(crate, trees, public):
+    yield head(crate, trees)
     yield "abbrev mutual"
-    for tree, kind, table in TREES:
+    for tree, kind, table in trees:
         yield f"  pub {tree}_code : {kind} → Gv"
         for tag, (name, fields) in enumerate(table):
             yield f"  {tree}_code {pattern(name, fields, 'a')} = {stored(tag, fields)}"
         yield ""
     yield "mutual"
-    for tree, kind, table in TREES:
+    for tree, kind, table in trees:
         yield f"  pub {tree}_inj : (x y : {kind}) → {tree}_code x ≡ {tree}_code y → x ≡ y"
         for tag, (name, fields) in enumerate(table):
             for other_tag, (other, other_fields) in enumerate(table):
                 proof = same(name, fields) if tag == other_tag else f"absurd (apart {tag} {other_tag} p (omega arith))"
                 yield f"  {tree}_inj {pattern(name, fields, 'a')} {pattern(other, other_fields, 'b')} p = {proof}"
         yield ""
-    yield TAIL.rstrip("\n")
+    coded = [TAIL % (tree, kind, tree, tree, tree) for tree, kind, _ in trees if tree in public]
+    yield "\n".join(coded).rstrip("\n")
 
 
 if __name__ == "__main__":
-    with open(TARGET, "w", encoding="utf-8") as out:
-        out.write("\n".join(lines()) + "\n")
+    for crate, trees, public in FILES:
+        with open(f"crates/{crate}/specs/Codes.antt", "w", encoding="utf-8") as out:
+            out.write("\n".join(lines(crate, trees, public)) + "\n")
