@@ -3,5 +3,6 @@
 #![tactic(auto)]
 
 pub mod cert;
+pub mod laws;
 pub mod rule;
 pub mod sequent;
