@@ -149,7 +149,10 @@ pub fn linear(alloc: Global, term: &Term) -> Result<Option<Row>, Memory>
 /// sum so far, passes 2^100 in size.
 pub fn combine(alloc: Global, rows: &[Row], multipliers: &[i64]) -> Result<Option<Row>, Memory>
     requires { length rows.now ≡ length multipliers.now }
-    ensures { IfOk result (λ o. opt_form o ≡ (if small_sums zero_form (map form_of rows.now) multipliers.now then Some (summed zero_form (map form_of rows.now) multipliers.now) else None)) }
+    ensures {
+        let forms = map form_of rows.now in
+        IfOk result (λ o. opt_form o ≡ (if small_sums zero_form forms multipliers.now then Some (summed zero_form forms multipliers.now) else None))
+    }
 {
     match combined(alloc, rows, multipliers)? {
         Some(sum) => Ok(Some(row_of(sum))),

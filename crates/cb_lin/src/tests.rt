@@ -24,30 +24,32 @@ fn sign(letter: u8) -> Option<TermSign> {
     }
 }
 
-// One letter more. `M` is the number 2^50, and `~` a minus before a term.
-fn step(alloc: Global, stack: &mut Vec<Term>, letter: u8) -> Result<(), Memory> {
+// The term that a letter adds to those on the stack. `M` is the number 2^50, and `~` a minus before a term.
+fn made(alloc: Global, stack: &mut Vec<Term>, letter: u8) -> Result<Option<Term>, Memory> {
     if let Some(sign) = sign(letter) {
         let (Some(right), Some(left)) = (stack.pop(), stack.pop()) else {
-            return Ok(());
+            return Ok(None);
         };
-        return stack.push(Term::bin(alloc, sign, left, right)?);
+        return Ok(Some(Term::bin(alloc, sign, left, right)?));
     }
     match letter {
         b'~' => match stack.pop() {
-            Some(operand) => stack.push(Term::neg(alloc, operand)?),
-            None => Ok(()),
+            Some(operand) => Ok(Some(Term::neg(alloc, operand)?)),
+            None => Ok(None),
         },
-        b'a' => stack.push(var(alloc, b"a")?),
-        b'b' => stack.push(var(alloc, b"b")?),
-        b'M' => stack.push(Term::num(1125899906842624)),
-        _ => stack.push(Term::num(i64::from(letter) - 48)),
+        b'a' => Ok(Some(var(alloc, b"a")?)),
+        b'b' => Ok(Some(var(alloc, b"b")?)),
+        b'M' => Ok(Some(Term::num(1125899906842624))),
+        _ => Ok(Some(Term::num(i64::from(letter) - 48))),
     }
 }
 
 fn row(alloc: Global, letters: &[u8]) -> Result<Option<Row>, Memory> {
     let mut stack = Vec::new(alloc);
     for letter in letters {
-        step(alloc, &mut stack, *letter)?;
+        if let Some(term) = made(alloc, &mut stack, *letter)? {
+            stack.push(term)?;
+        }
     }
     match stack.pop() {
         Some(term) => linear(alloc, &term),
