@@ -9,13 +9,13 @@ use Rattle.cb_term.specs.Values.{Look, nothing, set_at}
 use Rattle.cb_term.specs.Holds.{Holds, IsValue}
 use Rattle.cb_term.specs.Closed.{IsClosedTerm}
 use Rattle.cb_term.specs.Change.{for_name, for_outermost, name_stays, bound_stays, subst_formula, open_formula}
-use Rattle.cb_term.specs.Laws.{TruthIsStable, TermsHaveValues, ValuesAreUnique, FreeNamesDecide, FreeNamesDecideValue, ClosedStandsAlone, SameHoldAlike, SameHaveSameValue, Fits, ChangeKeepsTruth, HoldsAt, HoldsInside}
+use Rattle.cb_term.specs.Laws.{TruthIsStable, TermsHaveValues, ValuesAreUnique, FreeNamesDecide, FreeNamesDecideValue, ClosedStandsAlone, ClosedValueStandsAlone, SameHoldAlike, SameHaveSameValue, Fits, ChangeKeepsTruth, ChangeKeepsValue, HoldsAt, HoldsInside}
 use Rattle.cb_term.proofs.HoldsLemmas.{holds_stable, by_value, meets_gives}
 use Rattle.cb_term.proofs.ValueLemmas.{value_stable}
 use Rattle.cb_term.proofs.FreeLemmas.{agree_meets, agree_holds}
-use Rattle.cb_term.proofs.ClosedLemmas.{closed_holds, value_closed}
+use Rattle.cb_term.proofs.ClosedLemmas.{closed_meets, closed_holds, value_closed}
 use Rattle.cb_term.proofs.SameLemmas.{same_meets, same_holds}
-use Rattle.cb_term.proofs.ChangeLemmas.{mapped_holds}
+use Rattle.cb_term.proofs.ChangeLemmas.{mapped_meets, mapped_holds}
 
 pub truth_is_stable : TruthIsStable
 truth_is_stable sizes look f env = holds_stable sizes look f env
@@ -34,6 +34,9 @@ free_names_decide_value sizes look look' t env v r = agree_meets sizes look look
 
 pub closed_stands_alone : ClosedStandsAlone
 closed_stands_alone sizes look f env env' c = closed_holds sizes look ⊥ f 0 env env' (λ j lt. absurd (omega arith)) c
+
+pub closed_value_stands_alone : ClosedValueStandsAlone
+closed_value_stands_alone sizes look t env env' v c = closed_meets sizes look t 0 env env' (λ w. w ≡ v) (λ j lt. absurd (omega arith)) c
 
 pub same_hold_alike : SameHoldAlike
 same_hold_alike sizes look f g env s = same_holds sizes look ⊥ f g s env
@@ -62,6 +65,12 @@ pub change_keeps_truth : ChangeKeepsTruth
 change_keeps_truth sizes look look' names bounds k env env' f h =
     mapped_holds sizes look look' names bounds (FitsInside sizes look look' names bounds) (fits_more sizes look look' names bounds)
     (λ d y a b r. (fits_here sizes look look' names bounds d a b r).0 y) (λ d j a b r. (fits_here sizes look look' names bounds d a b r).1 j) ⊥ f k env env' h
+
+pub change_keeps_value : ChangeKeepsValue
+change_keeps_value sizes look look' names bounds k env env' t v h =
+    mapped_meets sizes look look' names bounds (FitsInside sizes look look' names bounds) (fits_more sizes look look' names bounds)
+    (λ d y a b r. (fits_here sizes look look' names bounds d a b r).0 y) (λ d j a b r. (fits_here sizes look look' names bounds d a b r).1 j)
+    t k env env' (λ w. w ≡ v) h (λ w. value_stable w v)
 
 -- ---- a term for a name, and for the outermost bound variable
 

@@ -28,7 +28,7 @@ module _ (sizes : List ℕ) (look : Look) where
         let q = and_parts (same_term a a') (same_term b b') p.1 in
         subst (λ z. Meets sizes look (Bin g a b) env P ↔ Meets sizes look (Bin z a' b') env P) (same_sign_tells g g' p.0)
         (then_iff (meets_iff sizes look a env _ _ (λ u. same_meets b b' q.1 env (λ w. P (bin g u w))))
-          (same_meets a a' q.0 env (λ u. Meets sizes look b' env (λ w. P (bin g u w)))))
+        (same_meets a a' q.0 env (λ u. Meets sizes look b' env (λ w. P (bin g u w)))))
     same_meets (Neg a) (Neg a') s env P = same_meets a a' s env (λ u. P (neg u))
     same_meets (Card a) (Card a') s env P = same_meets a a' s env (λ u. P (card u))
     same_meets (Listed ts) (Listed us) s env P = same_all ts us s env (λ xs. P (value.Set xs))
@@ -54,7 +54,7 @@ module _ (sizes : List ℕ) (look : Look) where
         let q = and_parts (same_term a a') (same_term b b') p.1 in
         subst (λ z. Holds sizes look (Rel r a b) env ↔ Holds sizes look (Rel z a' b') env) (same_rel_tells r r' p.0)
         (then_iff (meets_iff sizes look a env _ _ (λ u. same_meets b b' q.1 env (λ w. IsTrue (rel r u w))))
-          (same_meets a a' q.0 env (λ u. Meets sizes look b' env (λ w. IsTrue (rel r u w)))))
+        (same_meets a a' q.0 env (λ u. Meets sizes look b' env (λ w. IsTrue (rel r u w)))))
     same_holds X (Not f) (Not f') s env = not_iff (same_holds X f f' s env)
     same_holds X (And f g) (And f' g') s env = let p = and_parts (same f f') (same g g') s in and_iff (same_holds X f f' p.0 env) (same_holds X g g' p.1 env)
     same_holds X (Or f g) (Or f' g') s env =

@@ -1,5 +1,5 @@
 -- What is true of every term and formula: of their values and truth, of trees that are the same, and of changed trees.
-use Rattle.std.specs.Prelude.{◌≡◌, ℕ, ◌+◌, Bool, true, ◌↔◌, List, [], ◌∷◌, ◌++◌, length, slice_index_or}
+use Rattle.std.specs.Prelude.{◌≡◌, ℕ, ◌+◌, true, ◌↔◌, List, [], ◌∷◌, ◌++◌, length, slice_index_or}
 use Rattle.cb_term.specs.declared.name.Name.{Name}
 use Rattle.cb_term.specs.declared.value.Value.{Value}
 use Rattle.cb_term.specs.Tree.{TermTree, FormulaTree}
@@ -38,6 +38,11 @@ abbrev pub ClosedStandsAlone : Type 0
 ClosedStandsAlone = (sizes : List ℕ) (look : Look) (f : FormulaTree) (env env' : List Value) → IsClosed 0 f →
     Holds sizes look f env ↔ Holds sizes look f env'
 
+-- neither does a term
+abbrev pub ClosedValueStandsAlone : Type 0
+ClosedValueStandsAlone = (sizes : List ℕ) (look : Look) (t : TermTree) (env env' : List Value) (v : Value) → IsClosedTerm 0 t →
+    IsValue sizes look t env v ↔ IsValue sizes look t env' v
+
 -- formulas that are the same, the written names of bound variables aside, hold alike
 abbrev pub SameHoldAlike : Type 0
 SameHoldAlike = (sizes : List ℕ) (look : Look) (f g : FormulaTree) (env : List Value) → same f g ≡ true →
@@ -60,6 +65,12 @@ abbrev pub ChangeKeepsTruth : Type 0
 ChangeKeepsTruth = (sizes : List ℕ) (look look' : Look) (names : ℕ → Name → TermTree) (bounds : ℕ → ℕ → TermTree) (k : ℕ) (env env' : List Value)
     (f : FormulaTree) → ((vs : List Value) → Fits sizes look look' names bounds (k + length vs) (vs ++ env) (vs ++ env')) →
     Holds sizes look (mapped_formula names bounds k f) env ↔ Holds sizes look' f env'
+
+-- and a changed term has exactly the values that the term has so
+abbrev pub ChangeKeepsValue : Type 0
+ChangeKeepsValue = (sizes : List ℕ) (look look' : Look) (names : ℕ → Name → TermTree) (bounds : ℕ → ℕ → TermTree) (k : ℕ) (env env' : List Value)
+    (t : TermTree) (v : Value) → ((vs : List Value) → Fits sizes look look' names bounds (k + length vs) (vs ++ env) (vs ++ env')) →
+    IsValue sizes look (mapped_term names bounds k t) env v ↔ IsValue sizes look' t env' v
 
 -- the new formula holds exactly where the old one holds with the term's value at the name
 abbrev pub HoldsAt : FormulaTree → Name → TermTree → FormulaTree → Type 0

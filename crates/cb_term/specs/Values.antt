@@ -1,6 +1,6 @@
 -- Values, their kinds, what the signs do with them, and what names stand for.
 -- A set's items are whole numbers: 0 and 1 for FALSE and TRUE, and the places of elements.
-use Rattle.std.specs.Prelude.{ℕ, ◌+◌, ◌<◌, ◌==◌, ℤ, pos, ◌+ℤ◌, ◌-ℤ◌, ◌*ℤ◌, neg_ℤ, int_lt, int_le, Bool, true, false, ◌&&◌, ◌||◌, if◌then◌else◌, List, [], ◌∷◌, length, slice_index_or, IsTrue, ⊤}
+use Rattle.std.specs.Prelude.{ℕ, ◌<◌, ◌==◌, ℤ, pos, ◌+ℤ◌, ◌-ℤ◌, ◌*ℤ◌, neg_ℤ, int_lt, int_le, Bool, true, false, ◌&&◌, ◌||◌, if◌then◌else◌, List, [], ◌∷◌, length, slice_index_or, IsTrue, ⊤}
 use Rattle.std.specs.Ordering.{int_eq}
 use Rattle.std.specs.Int.{int_div_euclid, int_rem_euclid}
 use Rattle.cb_term.specs.declared.name.Name.{Name}

@@ -16,6 +16,7 @@ use std::alloc::{AllocError, Global};
 /// goes, so it may have bound variables of its own.
 pub trait Change {
     ghost names: { Self → ℕ → Name → TermTree };
+
     ghost bounds: { Self → ℕ → ℕ → TermTree };
 
     /// The term for a name under so many binders.
@@ -36,6 +37,7 @@ struct AtName<'a> {
 
 impl Change for AtName<'_> {
     ghost names = { λ c. for_name c.name.now c.term.now };
+
     ghost bounds = { λ c. bound_stays };
 
     fn name(&self, alloc: Global, _depth: u32, name: &Name) -> Result<Term, Memory> {
@@ -59,6 +61,7 @@ struct AtOutermost<'a> {
 
 impl Change for AtOutermost<'_> {
     ghost names = { λ c. name_stays };
+
     ghost bounds = { λ c. for_outermost c.term.now };
 
     fn name(&self, alloc: Global, _depth: u32, name: &Name) -> Result<Term, Memory> {

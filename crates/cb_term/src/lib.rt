@@ -15,12 +15,11 @@ pub mod laws;
 pub mod name;
 pub mod sign;
 pub mod table;
+#[cfg(test)]
+mod tests;
 pub mod text;
 pub mod tree;
 pub mod value;
-
-#[cfg(test)]
-mod tests;
 
 /// Want of memory, the only error of this crate.
 pub type Memory = AllocError;

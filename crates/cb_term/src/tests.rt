@@ -244,7 +244,12 @@ fn substitutes(rt: HostRuntime) -> Result<(), Fail> {
 #[test]
 fn compares_and_counts(rt: HostRuntime) -> Result<(), Fail> {
     let alloc = rt.alloc();
-    let other = Formula::every(alloc, name(alloc, b"z", 0)?, Kind::Integer, formula(alloc, b"va<")?)?;
+    let other = Formula::every(
+        alloc,
+        name(alloc, b"z", 0)?,
+        Kind::Integer,
+        formula(alloc, b"va<")?,
+    )?;
     assert!(rt; equal(&other, &formula(alloc, b"va<A")?));
     assert!(rt; !equal(&other, &formula(alloc, b"va<E")?));
     assert!(rt; !equal(&other, &formula(alloc, b"vb<A")?));

@@ -303,10 +303,8 @@ fn negated_within(
     formula: &Formula,
 ) -> Result<bool, Memory>
     ensures answer { IfOk result (λ put. put ≡ text.has_negated_sign formula.now) }
-    ensures text {
-        IfOk result (λ put. out.new.items
-          ≡ out.old.items ++ text.only_if put (text.formula_text sets.now.sets.items bound.old inner (tree.Not formula.now)))
-    }
+    ensures text { IfOk result (λ put. out.new.items
+        ≡ out.old.items ++ text.only_if put (text.formula_text sets.now.sets.items bound.old inner (tree.Not formula.now))) }
     ensures scope { OnOk result (bound.new ≡ bound.old) }
 {
     match &formula.node {

@@ -10,9 +10,9 @@ pub formula_within-returns-in_ok-formula_within-in-Not-clause-text : goal.formul
 formula_within-returns-in_ok-formula_within-in-Not-clause-text t c =
     let tried = c.in_ok-negated_within-in-Not.ensures in
     let before = nothing_put c.negated_within.new.out.items c.args.out.now.items
-        (formula_text c.args.sets.now.sets.items c.args.bound.now c.args.inner (Not c.deref.result.now)) c.in_ok-negated_within-in-Not.field-0 tried.text c.if-branch.false in
+    (formula_text c.args.sets.now.sets.items c.args.bound.now c.args.inner (Not c.deref.result.now)) c.in_ok-negated_within-in-Not.field-0 tried.text c.if-branch.false in
     let whole = not_text c.args.sets.now.sets.items c.args.bound.now c.args.inner _ _ _
-        (sym c.formula.view_is ∙ ap formula_of c.in-Not.is ∙ ap Not (sym c.deref.ensures)) tried.answer c.if-branch.false in
+    (sym c.formula.view_is ∙ ap formula_of c.in-Not.is ∙ ap Not (sym c.deref.ensures)) tried.answer c.if-branch.false in
     grind (arith, common_steps, before, whole)
 
 pub negated_within-returns-in_ok-term_within-in-Equal-2-clause-text : goal.negated_within-returns-in_ok-term_within-in-Equal-2-clause-text
