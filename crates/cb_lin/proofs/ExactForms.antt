@@ -1,18 +1,17 @@
 -- What is made step by step is the form, exactly where no number passes the bound.
-use Rattle.std.proofs.Common.{◌≡◌, ℕ, zero, suc, ℤ, pos, negsuc, ◌+ℤ◌, ◌*ℤ◌, neg_ℤ, Bool, true, false, ◌&&◌, cond, List, [], ◌∷◌, map, Option, Some, None, refl, ap, sym, ◌∙◌, ◌⊎◌, inl, inr, subst, arith}
+use Rattle.std.proofs.Common.{◌≡◌, zero, suc, ℤ, pos, negsuc, ◌+ℤ◌, ◌*ℤ◌, neg_ℤ, Bool, true, false, ◌&&◌, cond, List, [], ◌∷◌, map, Option, Some, None, refl, ap, sym, ◌∙◌, ◌⊎◌, inl, inr, arith}
 use Rattle.std.proofs.lemmas.Int.{ints}
 use Rattle.std.proofs.lemmas.Bool.{and_parts, and_from, and_left, and_right, both_ways}
 use Rattle.std.proofs.lemmas.Bool.Decides.{Decides-int_eq}
 use Rattle.std.proofs.lemmas.Option.{cond_some}
 use Rattle.std.specs.Ordering.{int_eq}
-use Rattle.cb_term.specs.declared.sign.TermSign.{TermSign}
-use Rattle.cb_term.specs.declared.sign.TermSign.TheVariants.{Add, Minus, Mul, Div, Mod, Range, Union, Inter}
-use Rattle.cb_term.specs.Tree.{TermTree, Var, Bound, Num, Truth, Elem, Bin, Neg, Card, Listed, Elems, Truths, Test}
+use Rattle.cb_term.specs.declared.sign.TermSign.TheVariants.{Add, Minus, Mul}
+use Rattle.cb_term.specs.Tree.{TermTree, Num, Bin, Neg}
 use Rattle.cb_term.specs.Same.{same_term}
 use Rattle.cb_lin.specs.declared.row.Row.{Row}
-use Rattle.cb_lin.specs.Form.{Form, zero_form, single, with_part, with_parts, sum_form, times_parts, times_form, product_form, form_of_term, summed}
+use Rattle.cb_lin.specs.Form.{Form, zero_form, with_part, with_parts, sum_form, times_parts, times_form, product_form, form_of_term, summed}
 use Rattle.cb_lin.specs.Small.{is_small, small_parts, small_form, small_all, small_sums, are_apart, none_zero}
-use Rattle.cb_lin.specs.Steps.{small, add_part, and_then, plus_parts, form, plus, coefficient_then, scale_parts, scaled, product, join, linear_of, combine_from}
+use Rattle.cb_lin.specs.Steps.{add_part, and_then, plus_parts, form, plus, coefficient_then, scale_parts, scaled, product, join, linear_of, combine_from}
 use Rattle.cb_lin.specs.Rows.{form_of}
 use Rattle.cb_lin.proofs.Sameness.{same_both}
 use Rattle.cb_lin.proofs.RowLemmas.{Apart, Distinct, AllRows, distinct_tested, nonzero_tested, distinct_times_form, distinct_form, nonzero_form, rows_keep, distinct_summed, nonzero_summed}
@@ -39,28 +38,28 @@ agrees q (p ∷ ps) h s =
     let both = and_parts (is_small p.1) (small_parts ps) h in
     by_test both (agrees q ps both.1 s) (same_term q.0 p.0) refl
   where
-  by_size : (small_parts ps ≡ true) → same_term q.0 p.0 ≡ true → (b z : Bool) → is_small (p.1 +ℤ q.1) ≡ b → int_eq (p.1 +ℤ q.1) (pos 0) ≡ z → Agrees q (p ∷ ps)
-  by_size t e true true b z = inl (rw (e, b, z) refl, rw (e, z) t)
-  by_size t e true false b z = inl (rw (e, b, z) refl, rw (e, z) (and_from (is_small (p.1 +ℤ q.1)) (small_parts ps) b t))
-  by_size t e false true b z = absurd (both_ways (is_small (p.1 +ℤ q.1)) b (zero_small (p.1 +ℤ q.1) z))
-  by_size t e false false b z = inr (rw (e, b) refl, rw (e, z) (inl (e, b)))
+    by_size : (small_parts ps ≡ true) → same_term q.0 p.0 ≡ true → (b z : Bool) → is_small (p.1 +ℤ q.1) ≡ b → int_eq (p.1 +ℤ q.1) (pos 0) ≡ z → Agrees q (p ∷ ps)
+    by_size t e true true b z = inl (rw (e, b, z) refl, rw (e, z) t)
+    by_size t e true false b z = inl (rw (e, b, z) refl, rw (e, z) (and_from (is_small (p.1 +ℤ q.1)) (small_parts ps) b t))
+    by_size t e false true b z = absurd (both_ways (is_small (p.1 +ℤ q.1)) b (zero_small (p.1 +ℤ q.1) z))
+    by_size t e false false b z = inr (rw (e, b) refl, rw (e, z) (inl (e, b)))
 
-  by_test : ((is_small p.1 ≡ true) × (small_parts ps ≡ true)) → Agrees q ps → (b : Bool) → same_term q.0 p.0 ≡ b → Agrees q (p ∷ ps)
-  by_test both go true e = by_size both.1 e (is_small (p.1 +ℤ q.1)) (int_eq (p.1 +ℤ q.1) (pos 0)) refl refl
-  by_test both (inl go) false e = inl (rw (e, go.0) refl, rw e (and_from (is_small p.1) (small_parts (with_part q ps)) both.0 go.1))
-  by_test both (inr go) false e = inr (rw (e, go.0) refl, rw e (inr go.1))
+    by_test : ((is_small p.1 ≡ true) × (small_parts ps ≡ true)) → Agrees q ps → (b : Bool) → same_term q.0 p.0 ≡ b → Agrees q (p ∷ ps)
+    by_test both go true e = by_size both.1 e (is_small (p.1 +ℤ q.1)) (int_eq (p.1 +ℤ q.1) (pos 0)) refl refl
+    by_test both (inl go) false e = inl (rw (e, go.0) refl, rw e (and_from (is_small p.1) (small_parts (with_part q ps)) both.0 go.1))
+    by_test both (inr go) false e = inr (rw (e, go.0) refl, rw e (inr go.1))
 
 big_stays : (t : TermTree) (q : TermTree × ℤ) (ps : List (TermTree × ℤ)) → same_term q.0 t ≡ false → Big t ps → Big t (with_part q ps)
 big_stays t q [] n b = absurd b
 big_stays t q (p ∷ ps) n b = by_test (big_stays t q ps n) (same_term q.0 p.0) (int_eq (p.1 +ℤ q.1) (pos 0)) refl refl b
   where
-  by_test : (Big t ps → Big t (with_part q ps)) → (e z : Bool) → same_term q.0 p.0 ≡ e → int_eq (p.1 +ℤ q.1) (pos 0) ≡ z →
-      ((same_term t p.0 ≡ true) × (is_small p.1 ≡ false)) ⊎ Big t ps → Big t (with_part q (p ∷ ps))
-  by_test go true z e f (inl h) = absurd (both_ways (same_term q.0 t) n (same_both q.0 t p.0 e h.0))
-  by_test go true true e f (inr b) = rw (e, f) b
-  by_test go true false e f (inr b) = rw (e, f) (inr b)
-  by_test go false z e f (inl h) = rw e (inl h)
-  by_test go false z e f (inr b) = rw e (inr (go b))
+    by_test : (Big t ps → Big t (with_part q ps)) → (e z : Bool) → same_term q.0 p.0 ≡ e → int_eq (p.1 +ℤ q.1) (pos 0) ≡ z →
+        ((same_term t p.0 ≡ true) × (is_small p.1 ≡ false)) ⊎ Big t ps → Big t (with_part q (p ∷ ps))
+    by_test go true z e f (inl h) = absurd (both_ways (same_term q.0 t) n (same_both q.0 t p.0 e h.0))
+    by_test go true true e f (inr b) = rw (e, f) b
+    by_test go true false e f (inr b) = rw (e, f) (inr b)
+    by_test go false z e f (inl h) = rw e (inl h)
+    by_test go false z e f (inr b) = rw e (inr (go b))
 
 big_stays_all : (t : TermTree) (ps qs : List (TermTree × ℤ)) → Apart t qs → Big t ps → Big t (with_parts ps qs)
 big_stays_all t ps [] a b = b
@@ -73,10 +72,10 @@ plus_parts_exact ps (q ∷ qs) s t d =
     let both = and_parts (is_small q.1) (small_parts qs) t in
     by_cases both.1 (λ ps s. plus_parts_exact ps qs s both.1 d.1) (agrees q ps s both.0)
   where
-  by_cases : small_parts qs ≡ true → ((ps : List (TermTree × ℤ)) → small_parts ps ≡ true → plus_parts ps qs ≡ cond (small_parts (with_parts ps qs)) (Some (with_parts ps qs)) None) → Agrees q ps →
-      and_then (add_part q ps) (λ r. plus_parts r qs) ≡ cond (small_parts (with_parts (with_part q ps) qs)) (Some (with_parts (with_part q ps) qs)) None
-  by_cases t go (inl a) = rw a.0 (go (with_part q ps) a.1)
-  by_cases t go (inr a) = rw (a.0, big_not_small q.0 (with_parts (with_part q ps) qs) (big_stays_all q.0 (with_part q ps) qs d.0 a.1)) refl
+    by_cases : small_parts qs ≡ true → ((ps : List (TermTree × ℤ)) → small_parts ps ≡ true → plus_parts ps qs ≡ cond (small_parts (with_parts ps qs)) (Some (with_parts ps qs)) None) → Agrees q ps →
+        and_then (add_part q ps) (λ r. plus_parts r qs) ≡ cond (small_parts (with_parts (with_part q ps) qs)) (Some (with_parts (with_part q ps) qs)) None
+    by_cases t go (inl a) = rw a.0 (go (with_part q ps) a.1)
+    by_cases t go (inr a) = rw (a.0, big_not_small q.0 (with_parts (with_part q ps) qs) (big_stays_all q.0 (with_part q ps) qs d.0 a.1)) refl
 
 -- ---- forms
 
@@ -100,9 +99,9 @@ scale_parts_exact k (p ∷ ps) = rw (scale_parts_exact k ps) (coefficient_checke
 scaled_exact : (k : ℤ) (f : Form) → scaled k f ≡ checked (times_form k f)
 scaled_exact k f = by_test (int_eq k (pos 0)) refl
   where
-  by_test : (z : Bool) → int_eq k (pos 0) ≡ z → scaled k f ≡ checked (times_form k f)
-  by_test true e = rw e refl
-  by_test false e = rw (e, scale_parts_exact k f.parts) (form_checked (small_parts (times_parts k f.parts)) (is_small (k *ℤ f.constant)) (times_parts k f.parts) (k *ℤ f.constant))
+    by_test : (z : Bool) → int_eq k (pos 0) ≡ z → scaled k f ≡ checked (times_form k f)
+    by_test true e = rw e refl
+    by_test false e = rw (e, scale_parts_exact k f.parts) (form_checked (small_parts (times_parts k f.parts)) (is_small (k *ℤ f.constant)) (times_parts k f.parts) (k *ℤ f.constant))
 
 plus_exact : (f g : Form) → small_form f ≡ true → small_form g ≡ true → Distinct g.parts → plus f g ≡ checked (sum_form f g)
 plus_exact f g s t d =
@@ -171,13 +170,13 @@ linear_exact (Neg a) =
     rw (linear_exact a) (one_checked (small_all a) (form_of_term a) (form_of_term (Neg a)) (scaled (negsuc 0)) (λ _. scaled_exact (negsuc 0) (form_of_term a)))
 linear_exact (Bin Add a b) =
     rw (linear_exact a, linear_exact b) (both_checked (small_all a) (small_all b) (form_of_term a) (form_of_term b) (form_of_term (Bin Add a b)) (join Add (Bin Add a b))
-      (λ h k. plus_exact (form_of_term a) (form_of_term b) (small_all_form a h) (small_all_form b k) (distinct_form b)))
+    (λ h k. plus_exact (form_of_term a) (form_of_term b) (small_all_form a h) (small_all_form b k) (distinct_form b)))
 linear_exact (Bin Minus a b) =
     rw (linear_exact a, linear_exact b) (both_checked (small_all a) (small_all b) (form_of_term a) (form_of_term b) (form_of_term (Bin Minus a b)) (join Minus (Bin Minus a b))
-      (λ h k. minus_exact (form_of_term a) (form_of_term b) (small_all_form a h) (small_all_form b k) (distinct_form b)))
+    (λ h k. minus_exact (form_of_term a) (form_of_term b) (small_all_form a h) (small_all_form b k) (distinct_form b)))
 linear_exact (Bin Mul a b) =
     rw (linear_exact a, linear_exact b) (both_checked (small_all a) (small_all b) (form_of_term a) (form_of_term b) (form_of_term (Bin Mul a b)) (join Mul (Bin Mul a b))
-      (λ h k. product_exact (Bin Mul a b) (form_of_term a) (form_of_term b) (form_of_term a).parts (form_of_term b).parts))
+    (λ h k. product_exact (Bin Mul a b) (form_of_term a) (form_of_term b) (form_of_term a).parts (form_of_term b).parts))
 linear_exact t = refl
 
 -- what `linear_of` answers is a row
@@ -195,12 +194,12 @@ combine_exact f (g ∷ gs) [] s r = refl
 combine_exact f (g ∷ gs) (k ∷ ks) s r =
     rw (scaled_exact k g) (by_test (small_form (times_form k g)) (small_form (sum_form f (times_form k g))) refl refl (λ s. combine_exact (sum_form f (times_form k g)) gs ks s r.1))
   where
-  by_test : (x y : Bool) → small_form (times_form k g) ≡ x → small_form (sum_form f (times_form k g)) ≡ y →
-      (small_form (sum_form f (times_form k g)) ≡ true → combine_from (sum_form f (times_form k g)) gs ks ≡ cond (small_sums (sum_form f (times_form k g)) gs ks) (Some (summed (sum_form f (times_form k g)) gs ks)) None) →
-      and_then (cond x (Some (times_form k g)) None) (λ h. and_then (plus f h) (λ r. combine_from r gs ks)) ≡ cond (x && (y && small_sums (sum_form f (times_form k g)) gs ks)) (Some (summed (sum_form f (times_form k g)) gs ks)) None
-  by_test true true h j go = rw (plus_exact f (times_form k g) s h (distinct_times_form k g r.0.0), j) (go j)
-  by_test true false h j go = rw (plus_exact f (times_form k g) s h (distinct_times_form k g r.0.0), j) refl
-  by_test false y h j go = refl
+    by_test : (x y : Bool) → small_form (times_form k g) ≡ x → small_form (sum_form f (times_form k g)) ≡ y →
+        (small_form (sum_form f (times_form k g)) ≡ true → combine_from (sum_form f (times_form k g)) gs ks ≡ cond (small_sums (sum_form f (times_form k g)) gs ks) (Some (summed (sum_form f (times_form k g)) gs ks)) None) →
+        and_then (cond x (Some (times_form k g)) None) (λ h. and_then (plus f h) (λ r. combine_from r gs ks)) ≡ cond (x && (y && small_sums (sum_form f (times_form k g)) gs ks)) (Some (summed (sum_form f (times_form k g)) gs ks)) None
+    by_test true true h j go = rw (plus_exact f (times_form k g) s h (distinct_times_form k g r.0.0), j) (go j)
+    by_test true false h j go = rw (plus_exact f (times_form k g) s h (distinct_times_form k g r.0.0), j) refl
+    by_test false y h j go = refl
 
 small_summed : (f : Form) (gs : List Form) (ks : List ℤ) → small_form f ≡ true → small_sums f gs ks ≡ true → small_form (summed f gs ks) ≡ true
 small_summed f [] ks s e = s
@@ -218,5 +217,8 @@ module _ (rows : List Row) (ks : List ℤ) where
   rows_keep_all f e =
       let gs = map form_of rows in
       let h = cond_some (small_sums zero_form gs ks) (summed zero_form gs ks) f (sym (e ∙ rows_exact)) in
-      rw (← h.1) (distinct_tested (summed zero_form gs ks).parts (distinct_summed zero_form gs ks tt),
-        nonzero_tested (summed zero_form gs ks).parts (nonzero_summed zero_form gs ks tt (rows_keep rows)), small_summed zero_form gs ks refl h.0)
+      rw (← h.1) (
+        distinct_tested (summed zero_form gs ks).parts (distinct_summed zero_form gs ks tt),
+        nonzero_tested (summed zero_form gs ks).parts (nonzero_summed zero_form gs ks tt (rows_keep rows)),
+        small_summed zero_form gs ks refl h.0,
+      )

@@ -17,7 +17,7 @@ use Rattle.cb_term.specs.Holds.{Meets, IsValue}
 use Rattle.cb_term.proofs.HoldsLemmas.{IsStable, meets_at, meets_gives, by_value}
 use Rattle.cb_term.proofs.ValueLemmas.{value_stable}
 use Rattle.cb_term.proofs.SameLemmas.{same_meets}
-use Rattle.cb_lin.specs.Form.{Form, zero_form, single, renewed_part, with_part, with_parts, sum_form, times_parts, times_form, product_form, form_of_term, summed}
+use Rattle.cb_lin.specs.Form.{Form, zero_form, renewed_part, with_part, with_parts, sum_form, times_parts, times_form, product_form, form_of_term, summed}
 use Rattle.cb_lin.specs.Laws.{parts_value, form_value, sum_value, NoneNegative, taken, AllAre, Respects, IsRight, FormHasValue, NumbersCanBeGiven, SumHasValue, SumIsNotNegative}
 use Rattle.cb_lin.proofs.Products.{mul-add, add-mul, mul_assoc}
 use Rattle.cb_lin.proofs.Sameness.{same_self, same_alike}
@@ -28,18 +28,18 @@ module _ (number : TermTree → ℤ) (respects : Respects number) where
   renewed_value : (t : TermTree) (n : ℤ) (ps : List (TermTree × ℤ)) → parts_value number (renewed_part t n ps) ≡ n *ℤ number t +ℤ parts_value number ps
   renewed_value t n ps = by_test (int_eq n (pos 0)) refl
     where
-    by_test : (b : Bool) → int_eq n (pos 0) ≡ b → parts_value number (cond b ps ((t, n) ∷ ps)) ≡ n *ℤ number t +ℤ parts_value number ps
-    by_test true e = rw ((Decides-int_eq n (pos 0)).0 e, zero-*ℤ (number t)) (sym (+ℤ_idl _))
-    by_test false e = refl
+      by_test : (b : Bool) → int_eq n (pos 0) ≡ b → parts_value number (cond b ps ((t, n) ∷ ps)) ≡ n *ℤ number t +ℤ parts_value number ps
+      by_test true e = rw ((Decides-int_eq n (pos 0)).0 e, zero-*ℤ (number t)) (sym (+ℤ_idl _))
+      by_test false e = refl
 
   with_part_value : (q : TermTree × ℤ) (ps : List (TermTree × ℤ)) → parts_value number (with_part q ps) ≡ q.1 *ℤ number q.0 +ℤ parts_value number ps
   with_part_value q [] = refl
   with_part_value q (p ∷ ps) = by_test (with_part_value q ps) (same_term q.0 p.0) refl
     where
-    by_test : parts_value number (with_part q ps) ≡ q.1 *ℤ number q.0 +ℤ parts_value number ps → (b : Bool) → same_term q.0 p.0 ≡ b →
-        parts_value number (cond b (renewed_part p.0 (p.1 +ℤ q.1) ps) (p ∷ with_part q ps)) ≡ q.1 *ℤ number q.0 +ℤ (p.1 *ℤ number p.0 +ℤ parts_value number ps)
-    by_test go true e = rw (renewed_value p.0 (p.1 +ℤ q.1) ps, respects q.0 p.0 e) (omega (arith, ints, add-mul p.1 q.1 (number p.0)))
-    by_test go false e = omega (arith, ints, go)
+      by_test : parts_value number (with_part q ps) ≡ q.1 *ℤ number q.0 +ℤ parts_value number ps → (b : Bool) → same_term q.0 p.0 ≡ b →
+          parts_value number (cond b (renewed_part p.0 (p.1 +ℤ q.1) ps) (p ∷ with_part q ps)) ≡ q.1 *ℤ number q.0 +ℤ (p.1 *ℤ number p.0 +ℤ parts_value number ps)
+      by_test go true e = rw (renewed_value p.0 (p.1 +ℤ q.1) ps, respects q.0 p.0 e) (omega (arith, ints, add-mul p.1 q.1 (number p.0)))
+      by_test go false e = omega (arith, ints, go)
 
   with_parts_value : (ps qs : List (TermTree × ℤ)) → parts_value number (with_parts ps qs) ≡ parts_value number ps +ℤ parts_value number qs
   with_parts_value ps [] = omega (arith, ints)
@@ -56,9 +56,9 @@ module _ (number : TermTree → ℤ) (respects : Respects number) where
   times_form_value : (k : ℤ) (f : Form) → form_value number (times_form k f) ≡ k *ℤ form_value number f
   times_form_value k f = by_test (int_eq k (pos 0)) refl
     where
-    by_test : (b : Bool) → int_eq k (pos 0) ≡ b → form_value number (cond b zero_form (record { parts = times_parts k f.parts; constant = k *ℤ f.constant })) ≡ k *ℤ form_value number f
-    by_test true e = rw ((Decides-int_eq k (pos 0)).0 e, zero-*ℤ (form_value number f)) refl
-    by_test false e = omega (arith, ints, times_parts_value k f.parts, mul-add k (parts_value number f.parts) f.constant)
+      by_test : (b : Bool) → int_eq k (pos 0) ≡ b → form_value number (cond b zero_form (record { parts = times_parts k f.parts; constant = k *ℤ f.constant })) ≡ k *ℤ form_value number f
+      by_test true e = rw ((Decides-int_eq k (pos 0)).0 e, zero-*ℤ (form_value number f)) refl
+      by_test false e = omega (arith, ints, times_parts_value k f.parts, mul-add k (parts_value number f.parts) f.constant)
 
   sums_value : (f : Form) (gs : List Form) (ks : List ℤ) → form_value number (summed f gs ks) ≡ sum_value number (form_value number f) gs ks
   sums_value f [] ks = refl
@@ -114,7 +114,7 @@ module _ (sizes : List ℕ) (look : Look) (env : List Value) where
         IsRight sizes look env number (Bin s a b) → IsRight sizes look env number a → IsRight sizes look env number b → number (Bin s a b) ≡ n
     bin_number s a b n e r ra rb =
         int_is (value_is (Bin s a b) (value.Int (number (Bin s a b))) (bin s (value.Int (number a)) (value.Int (number b))) r
-          (bin_value s a b (value.Int (number a)) (value.Int (number b)) ra rb) ∙ e)
+        (bin_value s a b (value.Int (number a)) (value.Int (number b)) ra rb) ∙ e)
 
     product_value : (t : TermTree) (f g : Form) (ps qs : List (TermTree × ℤ)) → f.parts ≡ ps → g.parts ≡ qs →
         number t ≡ form_value number f *ℤ form_value number g → form_value number (product_form t f g ps qs) ≡ number t
@@ -181,9 +181,9 @@ module _ (sizes : List ℕ) (look : Look) (env : List Value) where
       IsRight sizes look env number u → IsRight sizes look env (given t n number) u
   given_right t n number u is r = by_test (same_term u t) refl
     where
-    by_test : (b : Bool) → same_term u t ≡ b → IsValue sizes look u env (value.Int (cond b n (number u)))
-    by_test true e = (same_meets sizes look u t e env (λ v. v ≡ value.Int n)).1 is
-    by_test false e = r
+      by_test : (b : Bool) → same_term u t ≡ b → IsValue sizes look u env (value.Int (cond b n (number u)))
+      by_test true e = (same_meets sizes look u t e env (λ v. v ≡ value.Int n)).1 is
+      by_test false e = r
 
   given_all : (t : TermTree) (n : ℤ) (number : TermTree → ℤ) (us : List TermTree) → IsValue sizes look t env (value.Int n) →
       AllAre (IsRight sizes look env number) us → AllAre (IsRight sizes look env (given t n number)) us
@@ -198,10 +198,10 @@ module _ (sizes : List ℕ) (look : Look) (env : List Value) where
   can_be_given [] a none = none (λ t. pos 0) (λ t u e. refl) tt
   can_be_given (t ∷ ts) a none =
       by_value sizes look t env ⊥ no_stable (λ v hv.
-        let i = meets_gives sizes look t env v (IsOf sizes kind.Integer) (of_stable sizes v) hv a.0 in
-        let is = subst (λ w. IsValue sizes look t env w) (whole_of sizes v i) hv in
-        can_be_given ts a.1 (λ number r right.
-          none (given t (whole v) number) (given_respects t (whole v) number r) (given_here t (whole v) number is, given_all t (whole v) number ts is right)))
+      let i = meets_gives sizes look t env v (IsOf sizes kind.Integer) (of_stable sizes v) hv a.0 in
+      let is = subst (λ w. IsValue sizes look t env w) (whole_of sizes v i) hv in
+      can_be_given ts a.1 (λ number r right.
+      none (given t (whole v) number) (given_respects t (whole v) number r) (given_here t (whole v) number is, given_all t (whole v) number ts is right)))
 
 pub numbers_can_be_given : NumbersCanBeGiven
 numbers_can_be_given sizes look env ts a = can_be_given sizes look env ts a

@@ -1,5 +1,5 @@
 -- The forms of terms, and sums of rows, keep what a row keeps.
-use Rattle.std.proofs.Common.{◌≡◌, ℕ, zero, suc, ℤ, pos, negsuc, ◌+ℤ◌, ◌*ℤ◌, Bool, true, false, not, ◌&&◌, cond, List, [], ◌∷◌, map, refl, ap, sym, ◌∙◌, arith}
+use Rattle.std.proofs.Common.{◌≡◌, zero, suc, ℤ, pos, negsuc, ◌+ℤ◌, ◌*ℤ◌, Bool, true, false, not, List, [], ◌∷◌, map, refl, ap, arith}
 use Rattle.std.proofs.lemmas.Int.{ints}
 use Rattle.std.proofs.lemmas.Bool.{and_parts, and_from, false_from_ne_true, both_ways}
 use Rattle.std.proofs.lemmas.Bool.Decides.{Decides-int_eq}
@@ -8,7 +8,7 @@ use Rattle.cb_term.specs.declared.sign.TermSign.TheVariants.{Add, Minus, Mul}
 use Rattle.cb_term.specs.Tree.{TermTree, Num, Neg, Bin}
 use Rattle.cb_term.specs.Same.{same_term}
 use Rattle.cb_lin.specs.declared.row.Row.{Row}
-use Rattle.cb_lin.specs.Form.{Form, zero_form, single, with_part, with_parts, sum_form, times_parts, times_form, product_form, form_of_term, summed}
+use Rattle.cb_lin.specs.Form.{Form, with_part, with_parts, sum_form, times_parts, times_form, product_form, form_of_term, summed}
 use Rattle.cb_lin.specs.Small.{small_form, lacks, are_apart, none_zero}
 use Rattle.cb_lin.specs.Rows.{form_of}
 
@@ -69,28 +69,28 @@ apart_with : (t : TermTree) (q : TermTree × ℤ) (ps : List (TermTree × ℤ)) 
 apart_with t q [] n a = (n, tt)
 apart_with t q (p ∷ ps) n a = by_test (apart_with t q ps n a.1) (same_term q.0 p.0) (int_eq (p.1 +ℤ q.1) (pos 0)) refl refl
   where
-  by_test : Apart t (with_part q ps) → (e z : Bool) → same_term q.0 p.0 ≡ e → int_eq (p.1 +ℤ q.1) (pos 0) ≡ z → Apart t (with_part q (p ∷ ps))
-  by_test go true true e f = rw (e, f) a.1
-  by_test go true false e f = rw (e, f) a
-  by_test go false z e f = rw e (a.0, go)
+    by_test : Apart t (with_part q ps) → (e z : Bool) → same_term q.0 p.0 ≡ e → int_eq (p.1 +ℤ q.1) (pos 0) ≡ z → Apart t (with_part q (p ∷ ps))
+    by_test go true true e f = rw (e, f) a.1
+    by_test go true false e f = rw (e, f) a
+    by_test go false z e f = rw e (a.0, go)
 
 distinct_with : (q : TermTree × ℤ) (ps : List (TermTree × ℤ)) → Distinct ps → Distinct (with_part q ps)
 distinct_with q [] d = (tt, tt)
 distinct_with q (p ∷ ps) d = by_test (distinct_with q ps d.1) (same_term q.0 p.0) (int_eq (p.1 +ℤ q.1) (pos 0)) refl refl
   where
-  by_test : Distinct (with_part q ps) → (e z : Bool) → same_term q.0 p.0 ≡ e → int_eq (p.1 +ℤ q.1) (pos 0) ≡ z → Distinct (with_part q (p ∷ ps))
-  by_test go true true e f = rw (e, f) d.1
-  by_test go true false e f = rw (e, f) d
-  by_test go false z e f = rw e (apart_with p.0 q ps e d.0, go)
+    by_test : Distinct (with_part q ps) → (e z : Bool) → same_term q.0 p.0 ≡ e → int_eq (p.1 +ℤ q.1) (pos 0) ≡ z → Distinct (with_part q (p ∷ ps))
+    by_test go true true e f = rw (e, f) d.1
+    by_test go true false e f = rw (e, f) d
+    by_test go false z e f = rw e (apart_with p.0 q ps e d.0, go)
 
 nonzero_with : (q : TermTree × ℤ) (ps : List (TermTree × ℤ)) → int_eq q.1 (pos 0) ≡ false → Nonzero ps → Nonzero (with_part q ps)
 nonzero_with q [] n d = (n, tt)
 nonzero_with q (p ∷ ps) n d = by_test (nonzero_with q ps n d.1) (same_term q.0 p.0) (int_eq (p.1 +ℤ q.1) (pos 0)) refl refl
   where
-  by_test : Nonzero (with_part q ps) → (e z : Bool) → same_term q.0 p.0 ≡ e → int_eq (p.1 +ℤ q.1) (pos 0) ≡ z → Nonzero (with_part q (p ∷ ps))
-  by_test go true true e f = rw (e, f) d.1
-  by_test go true false e f = rw (e, f) (f, d.1)
-  by_test go false z e f = rw e (d.0, go)
+    by_test : Nonzero (with_part q ps) → (e z : Bool) → same_term q.0 p.0 ≡ e → int_eq (p.1 +ℤ q.1) (pos 0) ≡ z → Nonzero (with_part q (p ∷ ps))
+    by_test go true true e f = rw (e, f) d.1
+    by_test go true false e f = rw (e, f) (f, d.1)
+    by_test go false z e f = rw e (d.0, go)
 
 -- ---- sums and multiples
 
@@ -130,16 +130,16 @@ nonzero_times k (p ∷ ps) n d =
 pub distinct_times_form : (k : ℤ) (f : Form) → Distinct f.parts → Distinct (times_form k f).parts
 distinct_times_form k f d = by_test (int_eq k (pos 0)) refl
   where
-  by_test : (z : Bool) → int_eq k (pos 0) ≡ z → Distinct (times_form k f).parts
-  by_test true e = rw e tt
-  by_test false e = rw e (distinct_times k f.parts d)
+    by_test : (z : Bool) → int_eq k (pos 0) ≡ z → Distinct (times_form k f).parts
+    by_test true e = rw e tt
+    by_test false e = rw e (distinct_times k f.parts d)
 
 nonzero_times_form : (k : ℤ) (f : Form) → Nonzero f.parts → Nonzero (times_form k f).parts
 nonzero_times_form k f d = by_test (int_eq k (pos 0)) refl
   where
-  by_test : (z : Bool) → int_eq k (pos 0) ≡ z → Nonzero (times_form k f).parts
-  by_test true e = rw e tt
-  by_test false e = rw e (nonzero_times k f.parts e d)
+    by_test : (z : Bool) → int_eq k (pos 0) ≡ z → Nonzero (times_form k f).parts
+    by_test true e = rw e tt
+    by_test false e = rw e (nonzero_times k f.parts e d)
 
 -- ---- terms
 

@@ -1,6 +1,5 @@
 -- Being the same is an equivalence: trees are the same where they are equal once the written names of bound variables are taken out.
 use Rattle.std.proofs.Common.{◌≡◌, ◌==◌, Bool, true, false, ◌&&◌, [], refl, sym, ◌∙◌, ap, ap₂, subst}
-use Rattle.std.specs.Ordering.{int_eq}
 use Rattle.std.proofs.lemmas.Bool.{eqb-true, eq-eqb, and_parts, and_from}
 use Rattle.std.proofs.lemmas.Bool.Decides.{Decides-int_eq}
 use Rattle.cb_term.specs.declared.name.Name.{Name}
@@ -186,8 +185,8 @@ same_then t u w e f = bare_same_term t w (same_bare_term t u e ∙ same_bare_ter
 pub same_alike : (t u w : TermTree) → same_term t u ≡ true → same_term t w ≡ same_term u w
 same_alike t u w e = by_tests (same_term t w) (same_term u w) refl refl
   where
-  by_tests : (b c : Bool) → same_term t w ≡ b → same_term u w ≡ c → b ≡ c
-  by_tests true true h k = refl
-  by_tests false false h k = refl
-  by_tests false true h k = sym h ∙ same_then t u w e k
-  by_tests true false h k = sym (sym k ∙ same_then u t w (same_both u t u (same_self u) e) h)
+    by_tests : (b c : Bool) → same_term t w ≡ b → same_term u w ≡ c → b ≡ c
+    by_tests true true h k = refl
+    by_tests false false h k = refl
+    by_tests false true h k = sym h ∙ same_then t u w e k
+    by_tests true false h k = sym (sym k ∙ same_then u t w (same_both u t u (same_self u) e) h)

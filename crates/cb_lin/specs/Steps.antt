@@ -3,7 +3,7 @@
 use Rattle.std.specs.Prelude.{ℕ, suc, ℤ, pos, negsuc, ◌+ℤ◌, ◌*ℤ◌, Bool, true, false, List, [], ◌∷◌, Option, Some, None, if◌then◌else◌}
 use Rattle.std.specs.Ordering.{int_eq}
 use Rattle.cb_term.specs.declared.sign.TermSign.{TermSign}
-use Rattle.cb_term.specs.declared.sign.TermSign.TheVariants.{Add, Minus, Mul, Div, Mod, Range, Union, Inter}
+use Rattle.cb_term.specs.declared.sign.TermSign.TheVariants.{Add, Minus, Mul}
 use Rattle.cb_term.specs.Tree.{TermTree, Num, Neg, Bin}
 use Rattle.cb_term.specs.Same.{same_term}
 use Rattle.cb_lin.specs.Form.{Form, zero_form, single}

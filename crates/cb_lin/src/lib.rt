@@ -6,7 +6,5 @@ pub mod linear;
 pub mod row;
 pub mod small;
 mod sum;
-
-
 #[cfg(test)]
 mod tests;

@@ -19,7 +19,8 @@ fn is_linear(sign: TermSign) -> bool
 {
     match sign {
         TermSign::Add | TermSign::Minus | TermSign::Mul => true,
-        TermSign::Div | TermSign::Mod | TermSign::Range | TermSign::Union | TermSign::Inter => false,
+        TermSign::Div | TermSign::Mod | TermSign::Range | TermSign::Union | TermSign::Inter =>
+            false,
     }
 }
 
@@ -47,13 +48,7 @@ fn product(alloc: Global, term: &Term, f: &Sum, g: &Sum) -> Result<Option<Sum>, 
 }
 
 // The form of a term with this sign, from those of its sides.
-fn joined(
-    alloc: Global,
-    sign: TermSign,
-    term: &Term,
-    f: Sum,
-    g: Sum,
-) -> Result<Option<Sum>, Memory>
+fn joined(alloc: Global, sign: TermSign, term: &Term, f: Sum, g: Sum) -> Result<Option<Sum>, Memory>
     ensures { IfOk result (λ o. opt_sum o ≡ steps.join sign term.now (sum_of f) (sum_of g)) }
 {
     match sign {
@@ -149,10 +144,8 @@ pub fn linear(alloc: Global, term: &Term) -> Result<Option<Row>, Memory>
 /// sum so far, passes 2^100 in size.
 pub fn combine(alloc: Global, rows: &[Row], multipliers: &[i64]) -> Result<Option<Row>, Memory>
     requires { length rows.now ≡ length multipliers.now }
-    ensures {
-        let forms = map form_of rows.now in
-        IfOk result (λ o. opt_form o ≡ (if small_sums zero_form forms multipliers.now then Some (summed zero_form forms multipliers.now) else None))
-    }
+    ensures { let forms = map form_of rows.now in
+        IfOk result (λ o. opt_form o ≡ (if small_sums zero_form forms multipliers.now then Some (summed zero_form forms multipliers.now) else None)) }
 {
     match combined(alloc, rows, multipliers)? {
         Some(sum) => Ok(Some(row_of(sum))),

@@ -98,7 +98,11 @@ fn forms_and_sums(rt: HostRuntime) -> Result<(), Fail> {
         }
     }
     assert_eq!(rt; rows.len(), 2);
-    let sums: [([i64; 2], &[i128]); 3] = [([1, 1], &[1, 4]), ([2, -1], &[3, 2, -7]), ([0, 0], &[0])];
+    let sums: [([i64; 2], &[i128]); 3] = [
+        ([1, 1], &[1, 4]),
+        ([2, -1], &[3, 2, -7]),
+        ([0, 0], &[0]),
+    ];
     for (multipliers, expected) in sums {
         let found = numbers(alloc, combine(alloc, &rows, &multipliers)?)?;
         assert_eq!(rt; found.as_slice(), expected);

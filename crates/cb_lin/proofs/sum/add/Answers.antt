@@ -1,8 +1,8 @@
-use Rattle.std.proofs.Common.{◌≡◌, ◌<◌, ◌≤◌, length, slice_set, ◌+ℤ◌, ℕ, ◌+◌, [], ◌∷◌, ◌++◌, get_or, Some, None, ℤ, pos, sym, ap, ◌∙◌, refl, arith, rules, to_z, of_z}
+use Rattle.std.proofs.Common.{◌≡◌, ◌<◌, length, Some, pos, sym, ap, ◌∙◌, refl, arith, rules, of_z}
 use Rattle.std.specs.Int.{w128}
 use Rattle.std.proofs.lemmas.Int.{ints, to_z-of_z}
 use mir.Val.{SFits}
-use Rattle.cb_lin.specs.Steps.{small, place, add_part, when}
+use Rattle.cb_lin.specs.Steps.{place}
 use Rattle.cb_lin.proofs.StepLemmas.{add_end, add_none, add_zero, add_some}
 use Rattle.cb_lin.proofs.sum.add.Goals as goal
 use Rattle.cb_lin.proofs.sum.add.Goals.{After-merged}
