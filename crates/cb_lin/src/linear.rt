@@ -19,8 +19,7 @@ fn is_linear(sign: TermSign) -> bool
 {
     match sign {
         TermSign::Add | TermSign::Minus | TermSign::Mul => true,
-        TermSign::Div | TermSign::Mod | TermSign::Range | TermSign::Union | TermSign::Inter =>
-            false,
+        _ => false,
     }
 }
 
