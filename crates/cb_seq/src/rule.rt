@@ -51,7 +51,7 @@ pub enum Rule {
     },
     /// `REFL`: the goal is `t = t` or `t <: t`.
     Refl,
-    /// `LIN [h * m, ..]`: a sum of rows is below 0 and cannot be.
+    /// `LIN [h * m, ..]`: rows that are at least 0 add up, times their multipliers, to a number below 0.
     Lin {
         rows: Multiples,
     },

@@ -23,9 +23,9 @@ pub enum Group {
     Op,
     /// An initialisation, or an operation's body, has a run.
     Live,
-    /// The start of a controller.
+    /// The initialisations make true what a controller's first call asks.
     Start,
-    /// A definition of a controller keeps what is asked where it calls again.
+    /// A definition of a controller meets what its events and calls ask.
     Loop,
     /// An annotation of an event fits the channel's assertion.
     Match,
