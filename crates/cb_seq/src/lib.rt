@@ -1,0 +1,8 @@
+//! Sequents, the names of obligations, and certificates, which contracts see as plain trees; kinds of terms, and when a sequent
+//! is valid.
+#![tactic(auto)]
+
+pub mod cert;
+pub mod laws;
+pub mod rule;
+pub mod sequent;
