@@ -1,12 +1,10 @@
 #!/usr/bin/env python3
-"""Writes crates/cb_term/specs/Codes.antt: how the logic stores terms and formulas.
+"""Writes specs/Codes.antt of cb_term and cb_spec: how the logic stores their trees.
 
-For each constructor of the trees in crates/cb_term/specs/Tree.antt there is a line in the tables below, with the
+For each constructor of the trees in specs/Tree.antt of these crates there is a line in the tables below, with the
 kinds of its fields. A tree is stored as its constructor's place in its table, paired with the codes of its fields;
 the file also has the proof that trees with the same code are the same. Run it at the top of the repository.
 """
-
-TARGET = "crates/cb_term/specs/Codes.antt"
 
 TERM = [
     ("Var", ["name"]),
@@ -35,30 +33,48 @@ FORMULA = [
     ("Every", ["name", "kind", "formula"]),
     ("Exist", ["name", "kind", "formula"]),
 ]
-# name in the file, its type, its constructors
-TREES = [("term", "TermTree", TERM), ("terms", "TermTrees", TERMS), ("formula", "FormulaTree", FORMULA)]
+SUBST = [
+    ("Skip", []),
+    ("Assign", ["name", "term_tree"]),
+    ("Together", ["subst", "subst"]),
+    ("Choice", ["substs"]),
+    ("If", ["formula_tree", "subst", "subst"]),
+    ("AnyOf", ["name", "domain", "formula_tree", "subst"]),
+]
+SUBSTS = [("End", []), ("More", ["subst", "substs"])]
+PROCESS = [
+    ("Stop", []),
+    ("Skip", []),
+    ("Call", ["nat", "term_trees"]),
+    ("Prefix", ["event", "process"]),
+    ("Choice", ["process", "process"]),
+    ("Internal", ["process", "process"]),
+    ("If", ["formula_tree", "process", "process"]),
+]
 
 # what is stored by a coding that the logic or the check already has
 LEAVES = {
     "name": "name.the_row.coded",
     "kind": "kind.the_row.coded",
+    "domain": "domain.the_row.coded",
     "term_sign": "term_sign.the_row.coded",
     "rel_sign": "rel_sign.the_row.coded",
+    "event": "event.the_row.coded",
     "nat": "coded_ℕ",
     "int": "coded_ℤ",
     "bool": "coded_bool",
+    "term_tree": "coded_term",
+    "term_trees": "(coded_list coded_term)",
+    "formula_tree": "coded_formula",
 }
 
 HEAD = """\
 -- How the logic stores trees. Written by tools/gen_codes.py: change that, and not this file.
 use Rattle.std.proofs.Common.{◌≡◌, ◌≢◌, ℕ, refl, ap, arith}
-use Rattle.std.specs.Coded.{Coded, coded_ℕ, coded_ℤ, coded_bool}
+use Rattle.std.specs.Coded.{Coded, %s}
 use base.Stored.{Gv, gnil, gnum, gcons}
-use Rattle.cb_term.specs.contracts.name.Name as name
-use Rattle.cb_term.specs.contracts.kind.Kind as kind
-use Rattle.cb_term.specs.contracts.sign.TermSign as term_sign
-use Rattle.cb_term.specs.contracts.sign.RelSign as rel_sign
-use Rattle.cb_term.specs.Tree.{%s}
+%s
+use %s.{%s}
 
 abbrev head : Gv → Gv
 head gnil = gnil
@@ -75,12 +91,44 @@ apart m n p other = other (cc)
 """
 
 TAIL = """\
-abbrev pub coded_term : Coded TermTree
-coded_term = record { code = term_code; inj = term_inj }
-
-abbrev pub coded_formula : Coded FormulaTree
-coded_formula = record { code = formula_code; inj = formula_inj }
+abbrev pub coded_%s : Coded %s
+coded_%s = record { code = %s_code; inj = %s_inj }
 """
+
+# for each file: codings of std, codings of other files, the file of the trees, and the trees, each with its name here,
+# its type and its constructors. The last item names the trees whose coding is handed on
+FILES = {
+    "crates/cb_term/specs/Codes.antt": (
+        "coded_ℕ, coded_ℤ, coded_bool",
+        """\
+use Rattle.cb_term.specs.contracts.name.Name as name
+use Rattle.cb_term.specs.contracts.kind.Kind as kind
+use Rattle.cb_term.specs.contracts.sign.TermSign as term_sign
+use Rattle.cb_term.specs.contracts.sign.RelSign as rel_sign""",
+        "Rattle.cb_term.specs.Tree",
+        [("term", "TermTree", TERM), ("terms", "TermTrees", TERMS), ("formula", "FormulaTree", FORMULA)],
+        ["term", "formula"],
+    ),
+    "crates/cb_spec/specs/SubstCodes.antt": (
+        "",
+        """\
+use Rattle.cb_term.specs.contracts.name.Name as name
+use Rattle.cb_term.specs.contracts.kind.Domain as domain
+use Rattle.cb_term.specs.Codes.{coded_term, coded_formula}""",
+        "Rattle.cb_spec.specs.SubstTree",
+        [("subst", "SubstTree", SUBST), ("substs", "SubstTrees", SUBSTS)],
+        ["subst"],
+    ),
+    "crates/cb_spec/specs/ProcessCodes.antt": (
+        "coded_ℕ, coded_list",
+        """\
+use Rattle.cb_spec.specs.contracts.event.Event as event
+use Rattle.cb_term.specs.Codes.{coded_term, coded_formula}""",
+        "Rattle.cb_spec.specs.ProcessTree",
+        [("process", "ProcessTree", PROCESS)],
+        ["process"],
+    ),
+}
 
 
 def code(field):
@@ -121,26 +169,28 @@ def same(name, fields):
     return f"λ i. {name} {' '.join(parts)}"
 
 
-def lines():
-    names = ", ".join(part for _, kind, table in TREES for part in [kind] + [name for name, _ in table])
-    yield HEAD % names
+def lines(std_codes, uses, module, trees, handed):
+    names = ", ".join(part for _, kind, table in trees for part in [kind] + [name for name, _ in table])
+    yield (HEAD % (std_codes, uses, module, names)).replace("{Coded, }", "{Coded}")
     yield "abbrev mutual"
-    for tree, kind, table in TREES:
+    for tree, kind, table in trees:
         yield f"  pub {tree}_code : {kind} → Gv"
         for tag, (name, fields) in enumerate(table):
             yield f"  {tree}_code {pattern(name, fields, 'a')} = {stored(tag, fields)}"
         yield ""
     yield "mutual"
-    for tree, kind, table in TREES:
+    for tree, kind, table in trees:
         yield f"  pub {tree}_inj : (x y : {kind}) → {tree}_code x ≡ {tree}_code y → x ≡ y"
         for tag, (name, fields) in enumerate(table):
             for other_tag, (other, other_fields) in enumerate(table):
                 proof = same(name, fields) if tag == other_tag else f"absurd (apart {tag} {other_tag} p (omega arith))"
                 yield f"  {tree}_inj {pattern(name, fields, 'a')} {pattern(other, other_fields, 'b')} p = {proof}"
         yield ""
-    yield TAIL.rstrip("\n")
+    kinds = {tree: kind for tree, kind, _ in trees}
+    yield "\n".join(TAIL % (tree, kinds[tree], tree, tree, tree) for tree in handed).rstrip("\n")
 
 
 if __name__ == "__main__":
-    with open(TARGET, "w", encoding="utf-8") as out:
-        out.write("\n".join(lines()) + "\n")
+    for target, parts in FILES.items():
+        with open(target, "w", encoding="utf-8") as out:
+            out.write("\n".join(lines(*parts)) + "\n")

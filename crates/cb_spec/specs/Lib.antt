@@ -1,0 +1,11 @@
+pub mod ProcessCodes
+pub mod ProcessFalls
+pub mod ProcessSize
+pub mod ProcessTree
+pub mod ProcessView
+pub mod Stores
+pub mod SubstCodes
+pub mod SubstFalls
+pub mod SubstSize
+pub mod SubstTree
+pub mod SubstView

@@ -1,0 +1,9 @@
+//! The data of a system and of its runs: machines, channels, controllers, states, journals, and what is meant by them.
+#![tactic(auto)]
+
+pub mod event;
+pub mod process;
+pub mod state;
+pub mod store;
+pub mod subst;
+pub mod system;
