@@ -1,1 +1,3 @@
+pub mod DomainLemmas
+pub mod RunLemmas
 pub mod StoreLemmas

@@ -1,8 +1,17 @@
+pub mod Bound
+pub mod Domains
+pub mod Journals
+pub mod Laws
+pub mod Machines
 pub mod ProcessCodes
 pub mod ProcessFalls
 pub mod ProcessSize
 pub mod ProcessTree
 pub mod ProcessView
+pub mod Runs
+pub mod Safe
+pub mod Settling
+pub mod States
 pub mod Stores
 pub mod SubstCodes
 pub mod SubstFalls
