@@ -1,5 +1,7 @@
 pub mod Bound
 pub mod Domains
+pub mod FormValues
+pub mod Forms
 pub mod Journals
 pub mod Laws
 pub mod Machines
@@ -11,6 +13,8 @@ pub mod ProcessView
 pub mod Runs
 pub mod Safe
 pub mod Settling
+pub mod Silent
+pub mod Sound
 pub mod States
 pub mod Stores
 pub mod SubstCodes
@@ -18,3 +22,7 @@ pub mod SubstFalls
 pub mod SubstSize
 pub mod SubstTree
 pub mod SubstView
+pub mod Typed
+pub mod TypedProcesses
+pub mod TypedSubsts
+pub mod TypedTerms

@@ -19,16 +19,16 @@ abbrev pub Invariants : System → Look → Type 0
 Invariants y look = (k : ℕ) (m : Machine) → IsAt y.machines k m → Holds (set_sizes y) look m.invariant []
 
 -- a called operation's precondition holds of its arguments, and what passes a channel meets its assertion
-abbrev pub Meets : System → StateView → Entry → Type 0
-Meets y s (entry.Settle i bits) = ⊤
-Meets y s (entry.Op i b k j args results written) =
+abbrev pub Promised : System → StateView → Entry → Type 0
+Promised y s (entry.Settle i bits) = ⊤
+Promised y s (entry.Op i b k j args results written) =
     (m : Machine) (o : Operation) → IsAt y.machines k m → IsAt m.operations j o → Holds (set_sizes y) (with_args o args s.store) o.pre []
-Meets y s (entry.Pass k sent got vs) = (ch : Channel) → IsAt y.channels k ch → Holds (set_sizes y) (bound (names ch.values) vs) ch.assertion []
-Meets y s (entry.End c) = ⊤
+Promised y s (entry.Pass k sent got vs) = (ch : Channel) → IsAt y.channels k ch → Holds (set_sizes y) (bound (names ch.values) vs) ch.assertion []
+Promised y s (entry.End c) = ⊤
 
 -- the entry leads rightly from the state to the other
 pub record Right (y : System) (s : StateView) (e : Entry) (t : StateView) : Type 0 where
-  pub meets : Meets y s e
+  pub promised : Promised y s e
   pub before : Invariants y s.store
   pub after : Invariants y t.store
 
