@@ -1,5 +1,5 @@
 -- A value is in a domain where it is of the domain's kind and the typing conjunct holds.
-use Rattle.std.proofs.Common.{◌≡◌, ◌↔◌, ℕ, zero, suc, ◌+◌, ◌<◌, ℤ, pos, negsuc, ◌+ℤ◌, ◌<ℤ◌, ◌≤ℤ◌, int_lt, int_le, Bool, true, false, ◌&&◌, ◌||◌, List, [], ◌∷◌, IsTrue, refl, sym, ◌∙◌, arith, if◌then◌else◌, true≢false}
+use Rattle.std.proofs.Common.{◌≡◌, ◌↔◌, ℕ, zero, suc, ◌+◌, ℤ, pos, negsuc, ◌+ℤ◌, ◌<ℤ◌, ◌≤ℤ◌, int_lt, int_le, Bool, true, false, ◌||◌, List, [], ◌∷◌, IsTrue, refl, sym, ◌∙◌, arith, if◌then◌else◌, true≢false}
 use Rattle.std.specs.Ordering.{int_eq}
 use Rattle.std.specs.Int.{int_gap}
 use Rattle.std.specs.List.{list_all}
@@ -13,7 +13,7 @@ use Rattle.cb_term.specs.declared.name.Name.{Name}
 use Rattle.cb_term.specs.declared.sign.RelSign.TheVariants.{Member, Subset}
 use Rattle.cb_term.specs.declared.value.Value.{Value}
 use Rattle.cb_term.specs.declared.value.Value.TheVariants as value
-use Rattle.cb_term.specs.Sets.{IsAscending, has, upwards, range}
+use Rattle.cb_term.specs.Sets.{has, upwards, range}
 use Rattle.cb_term.specs.Tree.{Var}
 use Rattle.cb_term.specs.Values.{Look, IsOf, AreItems, rel, size_of_set}
 use Rattle.cb_term.specs.Holds.{Holds}

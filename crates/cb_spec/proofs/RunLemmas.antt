@@ -8,7 +8,7 @@ use Rattle.cb_term.specs.Holds.{Holds}
 use Rattle.cb_term.proofs.HoldsLemmas.{IsStable, by_value}
 use Rattle.cb_spec.specs.SubstTree.{SubstTree, Skip, Assign, Together, Choice, If, AnyOf, SubstTrees, End, More}
 use Rattle.cb_spec.specs.Stores.{Writes, found}
-use Rattle.cb_spec.specs.Runs.{Apart, Runs, RunsOne, Live, LiveEach, writes, one_writes, Fits, FitEach}
+use Rattle.cb_spec.specs.Runs.{Apart, Runs, RunsOne, Live, LiveEach, writes, one_writes, Fits}
 
 or_left : (a b : Bool) → a ≡ true → (a || b) ≡ true
 or_left true b e = refl

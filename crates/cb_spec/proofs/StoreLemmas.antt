@@ -4,7 +4,7 @@ use Rattle.std.specs.List.{insert, HoldsAt, AllWithin}
 use Rattle.std.specs.List.Sorted.{IsNonDecreasingBy, IsSortedBy, IsBinarySearchResult, IsPartitionPoint}
 use Rattle.std.specs.declared.cmp.Ordering.{Ordering}
 use Rattle.std.specs.declared.cmp.Ordering.TheVariants.{Less, Equal, Greater}
-use Rattle.std.specs.Ordering.{nat_cmp, ordering_index, is_lt, is_eq, ordering_reverse}
+use Rattle.std.specs.Ordering.{ordering_index, is_lt, is_eq, ordering_reverse}
 use Rattle.std.specs.Cmp.{IsTotalOrder, tied_then, unsigned_tied}
 use Rattle.std.proofs.lemmas.Cmp.{then_total, on_total, nat_cmp_total, nat_list_cmp_total}
 use Rattle.std.proofs.lemmas.List.Sorted.{searchable_from_sorted}
@@ -12,7 +12,7 @@ use Rattle.std.proofs.lemmas.Map.Text.{is_eq-slice_cmp}
 use Rattle.cb_term.specs.declared.name.Name.{Name}
 use Rattle.cb_term.specs.declared.value.Value.{Value}
 use Rattle.cb_term.specs.Names.{same_name}
-use Rattle.cb_term.specs.Values.{Look, nothing, set_at}
+use Rattle.cb_term.specs.Values.{Look, nothing}
 use Rattle.cb_term.proofs.ValueLemmas.{same_name_tells, same_name_self}
 use Rattle.cb_spec.specs.Stores.{Writes, found, over, empty, look_of, Puts, name_order, AllAfter, IsAscending}
 
@@ -204,4 +204,4 @@ module _ (es slice self : Writes) (same : slice ≡ es) (view : es ≡ self) (up
       let at_es = subst (λ z. IsPartitionPoint (Is Less x) (Is Greater x) z i) same gap in
       let put = put_gap es i x v at_es.0 (subst (λ z. i ≤ length z) same within) in
       subst (λ n. IsAscending n × Puts self n x v) (sym is)
-        (insert_ascends es i x v up at_es.0 at_es.1, subst (λ z. Puts z (insert es i (x, v)) x v) view (puts es (insert es i (x, v)) x v put))
+      (insert_ascends es i x v up at_es.0 at_es.1, subst (λ z. Puts z (insert es i (x, v)) x v) view (puts es (insert es i (x, v)) x v put))

@@ -1,5 +1,5 @@
 -- Names at values: parameters, inputs, results.
-use Rattle.std.specs.Prelude.{ℕ, Bool, true, false, ◌||◌, if◌then◌else◌, List, [], ◌∷◌, map, ⊤}
+use Rattle.std.specs.Prelude.{ℕ, Bool, false, ◌||◌, if◌then◌else◌, List, [], ◌∷◌, map, ⊤}
 use Rattle.cb_term.specs.declared.name.Name.{Name}
 use Rattle.cb_term.specs.declared.kind.Kind.{Kind}
 use Rattle.cb_term.specs.declared.value.Value.{Value}

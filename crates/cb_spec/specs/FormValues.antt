@@ -1,5 +1,5 @@
 -- The values of a form.
-use Rattle.std.specs.Prelude.{ℕ, ◌<◌, pos, List, [], ⊤}
+use Rattle.std.specs.Prelude.{ℕ, ◌<◌, List, [], ⊤}
 use Rattle.cb_term.specs.declared.kind.Base.TheVariants as base
 use Rattle.cb_term.specs.declared.value.Value.{Value}
 use Rattle.cb_term.specs.declared.value.Value.TheVariants as value

@@ -70,7 +70,7 @@ pub record Operating (y : System) (s : StateView) (i b k j : ℕ) (args results 
   -- where the precondition holds the body runs; else the results and what is written are any
   pub runs : Holds (set_sizes y) (with_args operation args s.store) operation.pre []
       → (d : Writes) × (Runs (set_sizes y) operation.body (with_args operation args s.store) d
-          × (results ≡ results_after operation d) × SameMap written (only (names machine.variables) d))
+      × (results ≡ results_after operation d) × SameMap written (only (names machine.variables) d))
   pub after : t ≡ record {
     store = over written s.store;
     controls = slice_set s.controls i (AtProcess next (over (bind targets results) env));

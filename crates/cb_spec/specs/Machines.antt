@@ -1,5 +1,5 @@
 -- What is promised of one machine, whatever is called. `sizes` has the number of elements of each enumerated set.
-use Rattle.std.specs.Prelude.{ℕ, ◌≡◌, List, [], ◌∷◌, map, Contains, ⊤}
+use Rattle.std.specs.Prelude.{ℕ, ◌≡◌, List, [], ◌∷◌, Contains, ⊤}
 use Rattle.cb_term.specs.declared.value.Value.{Value}
 use Rattle.cb_term.specs.Values.{Look}
 use Rattle.cb_term.specs.Holds.{Holds}

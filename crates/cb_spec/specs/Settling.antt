@@ -30,7 +30,7 @@ Settles sizes ds n Skip env sides c = (sides ≡ []) × (c ≡ Done)
 Settles sizes ds n (Prefix e p) env sides c = (sides ≡ []) × (c ≡ Offering (record { event = e; next = p; env = env } ∷ []))
 Settles sizes ds n (Choice p q) env sides c =
     (left : List BranchView) × ((right : List BranchView) × ((us : List Bool) × ((ws : List Bool)
-        × (Settles sizes ds n p env us (Offering left) × Settles sizes ds n q env ws (Offering right) × (sides ≡ us ++ ws) × (c ≡ Offering (left ++ right))))))
+    × (Settles sizes ds n p env us (Offering left) × Settles sizes ds n q env ws (Offering right) × (sides ≡ us ++ ws) × (c ≡ Offering (left ++ right))))))
 Settles sizes ds n (Internal p q) env [] c = ⊥
 Settles sizes ds n (Internal p q) env (false ∷ sides) c = Settles sizes ds n p env sides c
 Settles sizes ds n (Internal p q) env (true ∷ sides) c = Settles sizes ds n q env sides c

@@ -1,10 +1,9 @@
 -- When a system is sound: what its obligations say, read over what names stand for. And what is true of each state of a run then.
-use Rattle.std.specs.Prelude.{ℕ, ◌≡◌, true, Option, None, Some, List, [], ◌∷◌, ◌++◌, map, slice_get, IsSomeAnd, Contains, ⊤}
+use Rattle.std.specs.Prelude.{ℕ, ◌≡◌, true, Option, None, Some, List, [], ◌∷◌, slice_get, IsSomeAnd, Contains, ⊤}
 use Rattle.cb_term.specs.declared.name.Name.{Name}
 use Rattle.cb_term.specs.declared.value.Value.{Value}
-use Rattle.cb_term.specs.declared.value.Value.TheVariants as value
-use Rattle.cb_term.specs.Tree.{TermTree, FormulaTree}
-use Rattle.cb_term.specs.Values.{Look, AreItems, size_of_set}
+use Rattle.cb_term.specs.Tree.{FormulaTree}
+use Rattle.cb_term.specs.Values.{Look}
 use Rattle.cb_term.specs.Holds.{Holds}
 use Rattle.cb_spec.specs.declared.event.Event.TheVariants as event
 use Rattle.cb_spec.specs.declared.system.Channel.{Channel}
@@ -51,9 +50,9 @@ Sat y c (Prefix (event.Input k xs note) p) env store =
     IsSomeAnd (slice_get y.channels k) (λ ch. (vs : List Value) → Assumed y ch xs note vs → Sat y c p (over (bind xs vs) env) store)
 Sat y c (Prefix (event.Call k j ts xs) p) env store =
     IsSomeAnd (slice_get y.machines k) (λ m. IsSomeAnd (slice_get m.operations j) (λ o. (vs : List Value) → AreValues (set_sizes y) env ts vs →
-      Holds (set_sizes y) (with_args o vs store) o.pre []
-      × ((d : Writes) → Runs (set_sizes y) o.body (with_args o vs store) d → Holds (set_sizes y) (kept m d store) m.invariant []
-          → Sat y c p (over (bind xs (results_after o d)) env) (kept m d store))))
+    Holds (set_sizes y) (with_args o vs store) o.pre []
+    × ((d : Writes) → Runs (set_sizes y) o.body (with_args o vs store) d → Holds (set_sizes y) (kept m d store) m.invariant []
+    → Sat y c p (over (bind xs (results_after o d)) env) (kept m d store))))
 Sat y c (Choice p q) env store = Sat y c p env store × Sat y c q env store
 Sat y c (Internal p q) env store = Sat y c p env store × Sat y c q env store
 Sat y c (If f p q) env store = (Holds (set_sizes y) env f [] → Sat y c p env store) × ((¬ Holds (set_sizes y) env f []) → Sat y c q env store)
@@ -66,12 +65,12 @@ Matched y (Call k ts) = ⊤
 Matched y (Prefix (event.Output k ts None) p) = Matched y p
 Matched y (Prefix (event.Output k ts (Some f)) p) =
     ((ch : Channel) → IsAt y.channels k ch → (vs : List Value) → AreOfKinds (set_sizes y) ch.values vs →
-      Holds (set_sizes y) (bound (names ch.values) vs) f [] → Holds (set_sizes y) (bound (names ch.values) vs) ch.assertion [])
+    Holds (set_sizes y) (bound (names ch.values) vs) f [] → Holds (set_sizes y) (bound (names ch.values) vs) ch.assertion [])
     × Matched y p
 Matched y (Prefix (event.Input k xs None) p) = Matched y p
 Matched y (Prefix (event.Input k xs (Some f)) p) =
     ((ch : Channel) → IsAt y.channels k ch → (vs : List Value) → AreOfKinds (set_sizes y) ch.values vs →
-      Holds (set_sizes y) (bound (names ch.values) vs) ch.assertion [] → Holds (set_sizes y) (bound xs vs) f [])
+    Holds (set_sizes y) (bound (names ch.values) vs) ch.assertion [] → Holds (set_sizes y) (bound xs vs) f [])
     × Matched y p
 Matched y (Prefix (event.Call k j ts xs) p) = Matched y p
 Matched y (Choice p q) = Matched y p × Matched y q
@@ -149,3 +148,10 @@ pub record Good (y : System) (limit : ℕ) (s0 : Writes) (es : List Entry) (s : 
   pub sound : Sound y
   pub run : Run y limit s0 es s
   pub fit : Fit y s
+
+-- the same, without a word on the reasons: so a type may keep it
+abbrev pub IsTyped : System → Type 0
+IsTyped y = ∥ Typed y ∥₁
+
+abbrev pub IsSound : System → Type 0
+IsSound y = ∥ Sound y ∥₁

@@ -1,5 +1,5 @@
 -- Processes whose names are known and whose kinds and numbers of arguments are right.
-use Rattle.std.specs.Prelude.{ℕ, ◌≡◌, true, List, [], ◌∷◌, ◌++◌, map, length, slice_get, Option, Some, None, IsSomeAnd, Contains, ⊤}
+use Rattle.std.specs.Prelude.{ℕ, ◌≡◌, List, [], ◌∷◌, ◌++◌, map, length, slice_get, Option, Some, None, IsSomeAnd, Contains, ⊤}
 use Rattle.cb_term.specs.declared.name.Name.{Name}
 use Rattle.cb_term.specs.declared.kind.Kind.{Kind}
 use Rattle.cb_term.specs.Tree.{TermTree, FormulaTree}
@@ -11,7 +11,7 @@ use Rattle.cb_spec.specs.declared.system.Operation.{Operation}
 use Rattle.cb_spec.specs.declared.system.System.{System}
 use Rattle.cb_spec.specs.ProcessTree.{ProcessTree, Stop, Skip, Call, Prefix, Choice, Internal, If}
 use Rattle.cb_spec.specs.Domains.{kind_of}
-use Rattle.cb_spec.specs.Bound.{names, result_names, is_among}
+use Rattle.cb_spec.specs.Bound.{names, result_names}
 use Rattle.cb_spec.specs.Forms.{Form, form_of_domain}
 use Rattle.cb_spec.specs.Journals.{set_sizes}
 use Rattle.cb_spec.specs.TypedTerms.{Scope, IsNew, TypedFormula, TypedAs}
@@ -69,16 +69,16 @@ module _ (y : System) (global : List Name) (i : ℕ) (c : Controller) where
   TypedProcess scope taken (Call k ts) = IsSomeAnd (slice_get c.definitions k) (λ d. TypedArgs (set_sizes y) scope taken (kinds_of d.params) ts)
   TypedProcess scope taken (Prefix (event.Output k ts note) p) =
       IsSomeAnd (slice_get y.channels k) (λ ch. (ch.sender ≡ i) × TypedArgs (set_sizes y) scope taken (kinds_of ch.values) ts
-        × TypedNote (set_sizes y) (scope_of ch.values) (names ch.values ++ global) note)
+      × TypedNote (set_sizes y) (scope_of ch.values) (names ch.values ++ global) note)
       × TypedProcess scope taken p
   TypedProcess scope taken (Prefix (event.Input k xs note) p) =
       AreNew taken xs × IsSomeAnd (slice_get y.channels k) (λ ch. (ch.receiver ≡ i) × (length xs ≡ length ch.values)
-        × TypedNote (set_sizes y) (scope_at xs ch.values) (xs ++ global) note
-        × TypedProcess (scope_at xs ch.values ++ scope) (xs ++ taken) p)
+      × TypedNote (set_sizes y) (scope_at xs ch.values) (xs ++ global) note
+      × TypedProcess (scope_at xs ch.values ++ scope) (xs ++ taken) p)
   TypedProcess scope taken (Prefix (event.Call k j ts xs) p) =
       Contains c.machines k × AreNew taken xs × IsSomeAnd (slice_get y.machines k) (λ m. IsSomeAnd (slice_get m.operations j) (λ o.
-        TypedArgs (set_sizes y) scope taken (kinds_of o.params) ts × (length xs ≡ length o.results)
-        × TypedProcess (scope_with xs (result_forms (set_sizes y) m o) ++ scope) (xs ++ taken) p))
+      TypedArgs (set_sizes y) scope taken (kinds_of o.params) ts × (length xs ≡ length o.results)
+      × TypedProcess (scope_with xs (result_forms (set_sizes y) m o) ++ scope) (xs ++ taken) p))
   TypedProcess scope taken (Choice p q) = TypedProcess scope taken p × TypedProcess scope taken q
   TypedProcess scope taken (Internal p q) = TypedProcess scope taken p × TypedProcess scope taken q
   TypedProcess scope taken (If f p q) =

@@ -1,7 +1,7 @@
 -- Terms and formulas whose names are known and whose kinds and intervals are right.
 -- `sizes` has the number of elements of each enumerated set, `scope` what is known of names, and `inner` the same of bound
 -- variables with their written names, the innermost first.
-use Rattle.std.specs.Prelude.{ℕ, ◌+◌, ◌<◌, ◌≤◌, ◌≡◌, ℤ, pos, ◌-ℤ◌, ◌<ℤ◌, Bool, true, false, nat_lt, if◌then◌else◌, List, [], ◌∷◌, ◌++◌, map, length, slice_get, Option, Some, None, IsSomeAnd, ⊤}
+use Rattle.std.specs.Prelude.{ℕ, ◌≤◌, ◌≡◌, ℤ, pos, ◌-ℤ◌, ◌<ℤ◌, Bool, true, false, nat_lt, if◌then◌else◌, List, [], ◌∷◌, ◌++◌, map, length, slice_get, Option, Some, None, IsSomeAnd, ⊤}
 use Rattle.cb_term.specs.declared.name.Name.{Name}
 use Rattle.cb_term.specs.declared.kind.Kind.{Kind}
 use Rattle.cb_term.specs.declared.kind.Domain.{Domain}
@@ -10,11 +10,10 @@ use Rattle.cb_term.specs.declared.sign.RelSign.{RelSign}
 use Rattle.cb_term.specs.declared.sign.RelSign.TheVariants.{Member, Subset}
 use Rattle.cb_term.specs.declared.sign.TermSign.{TermSign}
 use Rattle.cb_term.specs.declared.sign.TermSign.TheVariants as sign
-use Rattle.cb_term.specs.declared.value.Value.{Value}
 use Rattle.cb_term.specs.Names.{same_name}
 use Rattle.cb_term.specs.Tree.{TermTree, Var, Bound, Num, Truth, Elem, Bin, Neg, Card, Listed, Elems, Truths, Test, TermTrees, End, More, FormulaTree, True, False, Rel, Not, And, Or, Implies, Iff, Every, Exist}
-use Rattle.cb_term.specs.Values.{Look, size_of_set}
-use Rattle.cb_spec.specs.Domains.{kind_of, In, HasElements, typing}
+use Rattle.cb_term.specs.Values.{size_of_set}
+use Rattle.cb_spec.specs.Domains.{kind_of, HasElements, typing}
 use Rattle.cb_spec.specs.Bound.{is_among}
 use Rattle.cb_spec.specs.Runs.{HasConjunct}
 use Rattle.cb_spec.specs.Forms as form

@@ -5,29 +5,24 @@ ghost use Rattle.cb_spec.specs.Laws.{DomainIsItsTyping, RunsWriteTargets, SidesR
 /// A value is in a domain where it is of the domain's kind and the typing conjunct holds.
 pub fn domain_is_its_typing()
     ensures { DomainIsItsTyping }
-{
-}
+{}
 
 /// A run writes to no name but those that are assigned to.
 pub fn runs_write_targets()
     ensures { RunsWriteTargets }
-{
-}
+{}
 
 /// Maps of the two sides of a `||` that fits have no name in common.
 pub fn sides_run_apart()
     ensures { SidesRunApart }
-{
-}
+{}
 
 /// A substitution that fits and is live cannot be without a run.
 pub fn live_has_run()
     ensures { LiveHasRun }
-{
-}
+{}
 
 /// A substitution that cannot fail to be live is live.
 pub fn live_is_stable()
     ensures { LiveIsStable }
-{
-}
+{}

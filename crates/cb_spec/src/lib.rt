@@ -4,7 +4,10 @@
 pub mod event;
 pub mod laws;
 pub mod process;
+pub mod sound;
 pub mod state;
 pub mod store;
 pub mod subst;
 pub mod system;
+#[cfg(test)]
+mod tests;

@@ -21,10 +21,7 @@ pub struct Branch {
 #[derive(Drop)]
 pub enum Control {
     /// At a process that is not resolved yet.
-    At {
-        process: Process,
-        env: Store,
-    },
+    At { process: Process, env: Store },
     /// Its branches are offered.
     Ready(Items<Branch>),
     Ended,

@@ -98,7 +98,10 @@ impl Store {
 fn order(x: &Name, y: &Name) -> Ordering
     ensures { result ≡ name_order x.now y.now }
 {
-    x.text.as_slice().cmp(y.text.as_slice()).then(x.number.cmp(&y.number))
+    x.text
+        .as_slice()
+        .cmp(y.text.as_slice())
+        .then(x.number.cmp(&y.number))
 }
 
 // Where the name is, or where it would go.

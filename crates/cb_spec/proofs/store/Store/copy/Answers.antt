@@ -1,4 +1,4 @@
-use Rattle.std.proofs.Common.{◌≡◌, ◌∙◌, sym, subst}
+use Rattle.std.proofs.Common.{◌∙◌, sym, subst}
 use Rattle.std.proofs.lemmas.List.{take_all}
 use Rattle.cb_spec.specs.Stores.{IsAscending}
 use Rattle.cb_spec.proofs.store.Store.copy.Goals as goal
