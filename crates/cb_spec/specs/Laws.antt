@@ -8,7 +8,7 @@ use Rattle.cb_term.specs.Holds.{Holds}
 use Rattle.cb_spec.specs.SubstTree.{SubstTree, Together}
 use Rattle.cb_spec.specs.Stores.{Writes, found}
 use Rattle.cb_spec.specs.Domains.{kind_of, In, typing}
-use Rattle.cb_spec.specs.Runs.{Apart, Runs, Live, writes, Fits}
+use Rattle.cb_spec.specs.Runs.{Apart, Runs, Live, writes, reads, Fits}
 
 -- a value is in a domain where it is of the domain's kind and the typing conjunct holds
 abbrev pub DomainIsItsTyping : Type 0
@@ -31,3 +31,13 @@ LiveHasRun = (sizes : List ℕ) (s : SubstTree) (look : Look) → Fits sizes s �
 -- a substitution that cannot fail to be live is live
 abbrev pub LiveIsStable : Type 0
 LiveIsStable = (sizes : List ℕ) (s : SubstTree) (look : Look) → ¬ ¬ Live sizes s look → Live sizes s look
+
+-- a run depends on the names alone that stand free in terms and tests
+abbrev pub RunsReadNames : Type 0
+RunsReadNames = (sizes : List ℕ) (s : SubstTree) (look look' : Look) → ((y : Name) → reads y s ≡ true → look y ≡ look' y) →
+    (d : Writes) → Runs sizes s look d → Runs sizes s look' d
+
+-- so does what is live
+abbrev pub LiveReadsNames : Type 0
+LiveReadsNames = (sizes : List ℕ) (s : SubstTree) (look look' : Look) → ((y : Name) → reads y s ≡ true → look y ≡ look' y) →
+    Live sizes s look → Live sizes s look'

@@ -1,5 +1,6 @@
 pub mod Bound
 pub mod Domains
+pub mod Example
 pub mod FormValues
 pub mod Forms
 pub mod Journals
