@@ -1,0 +1,4 @@
+pub mod DomainLemmas
+pub mod ExampleLemmas
+pub mod RunLemmas
+pub mod StoreLemmas
