@@ -20,7 +20,7 @@ import sys
 HEAD = """\
 -- How the logic stores the trees. Written by tools/gen_codes.py from {table}: change that, and not this file.
 use Rattle.std.proofs.Common.{{◌≡◌, ◌≢◌, ℕ, refl, ap, arith}}
-use Rattle.std.specs.Coded.{{Coded, coded_ℕ, coded_ℤ, coded_bool}}
+use Rattle.std.specs.Coded.{{{codings}}}
 use base.Stored.{{Gv, gnil, gnum, gcons}}
 {uses}
 use {module}.{{{names}}}
@@ -62,7 +62,7 @@ class Table:
         elif word == "from":
             (self.module,) = rest
         elif word == "leaf":
-            kind, coding = rest
+            kind, coding = rest[0], " ".join(rest[1:])
             if coding.startswith("Rattle."):
                 self.uses.append(f"use {coding} as {kind}")
                 coding = f"{kind}.the_row.coded"
@@ -96,9 +96,14 @@ class Table:
         parts = [f"({self.inj(field)} a{i} b{i} (ap (λ g. {part_of(i, count)}) p) i)" for i, field in enumerate(fields)]
         return f"λ i. {name} {' '.join(parts)}"
 
+    def codings(self):
+        """The codings of std that the fields take."""
+        taken = " ".join(self.leaves.get(field, "") for _, _, rows in self.trees for _, fields in rows for field in fields)
+        return ["Coded"] + [it for it in ("coded_ℕ", "coded_ℤ", "coded_bool", "coded_list") if it in taken]
+
     def lines(self):
         names = ", ".join(part for _, kind, rows in self.trees for part in [kind] + [name for name, _ in rows])
-        yield HEAD.format(table=self.path, uses="\n".join(self.uses), module=self.module, names=names)
+        yield HEAD.format(table=self.path, codings=", ".join(self.codings()), uses="\n".join(self.uses), module=self.module, names=names)
         yield "abbrev mutual"
         for tree, kind, rows in self.trees:
             yield f"  pub {tree}_code : {kind} → Gv"
