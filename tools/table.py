@@ -20,8 +20,6 @@ CRATE = os.path.join('crates', 'cb_grammar')
 # Classes of tokens: names, numbers, the end, the keywords and the signs; opened names where none may stand, which no
 # part takes; and from FIRST_WORD on the names that are words with a meaning of their own in some places.
 NAME, NUMBER, FINISH, FIRST_KEYWORD, OPENED, FIRST_WORD = 1, 2, 3, 4, 119, 128
-# The kind of a token that is kept.
-WORD = 'word'
 
 
 def refuse(*problems):
@@ -34,7 +32,7 @@ class Grammar:
     """The grammar file, entry by entry."""
 
     def __init__(self, path):
-        self.keywords, self.signs, self.reads, self.kinds = [], [], [], []
+        self.keywords, self.signs, self.reads, self.words, self.kinds = [], [], [], [], []
         self.actions, self.parts = {}, {}
         entry = ''
         for line in open(path).read().split('\n') + ['']:
@@ -51,8 +49,10 @@ class Grammar:
 
     def add(self, entry):
         words = entry.split()
-        if words[0] in ('keywords', 'signs', 'reads'):
+        if words[0] in ('keywords', 'signs', 'reads', 'words'):
             getattr(self, words[0]).extend(zip(words[1::2], words[2::2]))
+            if words[0] == 'words':
+                self.kinds += [kind for kind in dict.fromkeys(words[2::2]) if kind not in self.kinds]
         elif words[0] == 'kinds':
             self.kinds += words[1:]
         elif words[0] == 'action':
@@ -246,6 +246,8 @@ class Table:
         if self.problems:
             refuse(*self.problems)
         self.rows = list(grammar.actions.values())
+        self.kind_of_class = {self.classes[spelling]: kind for spelling, kind in grammar.words}
+        self.kind_of_class[OPENED] = self.kind_of_class[NAME]
         self.find_kinds()
         if self.problems:
             refuse(*self.problems)
@@ -340,6 +342,9 @@ class Table:
         if max(self.weights) > 255 or max(total(body) for *_, body in self.lines) >= 1000:
             self.problems.append('a part is too heavy')
 
+    def word_kind(self, number):
+        return self.kind_of_class[group_of(number) or number]
+
     # which kinds of values each part takes and leaves, by the sort in which it ends
 
     def find_kinds(self):
@@ -349,13 +354,14 @@ class Table:
             changed = False
             for part, key, keep, body in self.lines:
                 try:
-                    ends = self.walk([WORD] if keep else [], [], tuple(body))
-                except TypeError:
+                    ends = self.walk([self.word_kind(key)] if keep else [], [], tuple(body))
+                except (TypeError, KeyError):
                     self.problems.append(f'{self.names[part - 1]} {self.spelling.get(key, "")}: the kinds do not fit')
                     continue
                 for end in ends or []:
                     changed |= self.learn(part, key, *end)
-        self.problems += [f'{name}: no kinds' for name in self.names if self.number[name] not in self.takes]
+        if not self.problems:
+            self.problems = [f'{name}: no kinds' for name in self.names if self.number[name] not in self.takes]
         if not self.problems:
             self.pick_missing()
 
@@ -384,7 +390,7 @@ class Table:
                     raise TypeError
         for i, symbol in enumerate(body):
             if symbol[0] == 'Keep':
-                stack.append(WORD)
+                stack.append(self.word_kind(symbol[1]))
             elif symbol[0] == 'Act':
                 pop(self.rows[symbol[1]][0])
                 stack += self.rows[symbol[1]][1]
@@ -418,8 +424,8 @@ class Table:
         for kinds in itertools.product(self.grammar.kinds, repeat=len(lone)):
             for (part, sort), kind in zip(lone.items(), kinds):
                 self.leaves[part][1 - sort] = [kind]
-            if all(self.leads(part, tuple(body), None, tuple(self.takes[part] + ([WORD] if keep else [])))
-                   for part, _, keep, body in self.lines):
+            if all(self.leads(part, tuple(body), None, tuple(self.takes[part] + ([self.word_kind(key)] if keep else [])))
+                   for part, key, keep, body in self.lines):
                 return
         self.problems.append('the actions do not fit')
 
@@ -431,7 +437,7 @@ class Table:
         if sort is not None:
             return symbol[0] == 'Then' and self.through(own, symbol[1 + sort], stack, rest)
         if symbol[0] == 'Keep':
-            return self.leads(own, rest, None, stack + (WORD,))
+            return self.leads(own, rest, None, stack + (self.word_kind(symbol[1]),))
         if symbol[0] == 'Act':
             takes, leaves = self.rows[symbol[1]]
             below = below_of(takes, stack)
@@ -513,7 +519,7 @@ class Writer:
     def wrapped(words):
         lines, line = [], ''
         for word in words:
-            if line and len(line) + 1 + len(word) > 96:
+            if line and len(line) + 1 + len(word) > 95:
                 lines.append('    ' + line)
                 line = ''
             line += (' ' if line else '') + word
@@ -606,11 +612,15 @@ class Writer:
     def signatures(self):
         table = self.table
         out = [f'-- What each action and each part takes and leaves, by kinds of values, the last one first. {self.NOTE}',
-               'use Rattle.std.specs.Prelude.{ℕ, List, [], ◌∷◌, true, false, slice_get}',
+               'use Rattle.std.specs.Prelude.{ℕ, List, [], ◌∷◌, true, false, slice_get, slice_index}',
                'use Rattle.cb_engine.specs.Kinds.{Effect, Signature, Signatures, signature, effect_or, signature_or}', '',
                '-- the kinds']
         for kind, number in self.kind.items():
             out += [f'abbrev pub {kind}_kind : ℕ', f'{kind}_kind = {number}', '']
+        out += ['-- the kind of a word, by its class; 0 where no part keeps it', 'abbrev pub word_kinds : List ℕ', 'word_kinds =']
+        out += self.wrapped([f'{self.kind.get(table.kind_of_class.get(number), 0)} ∷'
+                             for number in range(max(table.kind_of_class) + 1)] + ['[]'])
+        out += ['', 'abbrev pub word_kind : ℕ → ℕ', 'word_kind c = slice_index word_kinds c', '']
         out += ['abbrev pub actions : List Effect', 'actions =']
         for name, (takes, leaves) in self.grammar.actions.items():
             out.append(f'    -- {name}')
@@ -624,7 +634,7 @@ class Writer:
             else:
                 out.append(f'    signature true ({takes}) ({self.top_first(leaves[0])}) ({self.top_first(leaves[1])}) ∷')
         out += ['    []', '', 'abbrev pub signatures : Signatures',
-                'signatures = record { action = λ n. effect_or (slice_get actions n); part = λ n. signature_or (slice_get parts n) }', '']
+                'signatures = record { word = word_kind; action = λ n. effect_or (slice_get actions n); part = λ n. signature_or (slice_get parts n) }', '']
         return '\n'.join(out)
 
     def hints(self):

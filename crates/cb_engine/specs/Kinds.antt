@@ -6,7 +6,7 @@ use Rattle.cb_engine.specs.declared.Item.{Item}
 use Rattle.cb_engine.specs.declared.Item.TheVariants.{Word, Do}
 use Rattle.cb_engine.specs.declared.Reading.{Reading}
 use Rattle.cb_engine.specs.declared.Reading.TheVariants as reading
-use Rattle.cb_engine.specs.Rules.{Rules, chosen}
+use Rattle.cb_engine.specs.Rules.{Rules, chosen, group}
 use Rattle.cb_engine.specs.Tables.{body}
 
 -- what an action takes and leaves, the top first
@@ -21,7 +21,9 @@ pub record Signature : Type 0 where
   pub leaves : List ℕ
   pub second : List ℕ
 
+-- the kind of a word goes by the group of its class
 pub record Signatures : Type 0 where
+  pub word : ℕ → ℕ
   pub action : ℕ → Effect
   pub part : ℕ → Signature
 
@@ -34,15 +36,15 @@ strip [] k = Some k
 strip (x ∷ p) [] = None
 strip (x ∷ p) (y ∷ k) = if eqb x y then strip p k else None
 
--- the kinds after the items, or none where one of them doesn't fit; a word has the kind 1
+-- the kinds after the items, or none where one of them doesn't fit
 abbrev pub with_left : (List ℕ → Option (List ℕ)) → Option (List ℕ) → Option (List ℕ)
 with_left f None = None
 with_left f (Some k) = f k
 
-abbrev pub kinds : (ℕ → Effect) → List Item → List ℕ → Option (List ℕ)
-kinds a [] k = Some k
-kinds a (Word t ∷ out) k = kinds a out (1 ∷ k)
-kinds a (Do n ∷ out) k = with_left (λ r. kinds a out ((a n).leaves ++ r)) (strip (a n).takes k)
+abbrev pub kinds : Signatures → List Item → List ℕ → Option (List ℕ)
+kinds g [] k = Some k
+kinds g (Word t ∷ out) k = kinds g out (g.word (group t.class) ∷ k)
+kinds g (Do n ∷ out) k = with_left (λ r. kinds g out ((g.action n).leaves ++ r)) (strip (g.action n).takes k)
 
 -- The test of a line: its symbols lead from some kinds to what its part leaves.
 abbrev pub same_kinds : List ℕ → List ℕ → Bool
@@ -73,7 +75,7 @@ onward plain by s k = if s.sorted then by 0 (s.leaves ++ k) && by 1 (s.second ++
 abbrev pub leads : Signatures → Signature → List Symbol → Option ℕ → List ℕ → Bool
 leads g s [] None k = ends_plain s k
 leads g s (Take c ∷ b) None k = leads g s b None k
-leads g s (Keep c ∷ b) None k = leads g s b None (1 ∷ k)
+leads g s (Keep c ∷ b) None k = leads g s b None (g.word (group c) ∷ k)
 leads g s (Act a ∷ b) None k = when_left (λ r. leads g s b None ((g.action a).leaves ++ r)) (strip (g.action a).takes k)
 leads g s (Part n ∷ b) None k = when_left (onward (λ r. leads g s b None r) (λ m r. leads g s b (Some m) r) (g.part n)) (strip (g.part n).takes k)
 leads g s (Gives m ∷ b) None k = leads g s b (Some m) k
@@ -88,13 +90,13 @@ leads g s (Part n ∷ b) (Some m) k = false
 leads g s (Gives n ∷ b) (Some m) k = false
 leads g s (Line l0 l1 l2 ∷ b) (Some m) k = false
 
-abbrev pub entered : Bool → List ℕ → List ℕ
-entered true k = 1 ∷ k
-entered false k = k
+abbrev pub entered : Signatures → ℕ → Bool → List ℕ → List ℕ
+entered g c true k = g.word (group c) ∷ k
+entered g c false k = k
 
 abbrev pub line_leads : Signatures → ℕ → ℕ → Bool → List Symbol → Bool
 line_leads g n zero keep b = leads g (g.part n) b None (g.part n).takes
-line_leads g n (suc c) keep b = leads g (g.part n) b None (entered keep (g.part n).takes)
+line_leads g n (suc c) keep b = leads g (g.part n) b None (entered g (suc c) keep (g.part n).takes)
 
 -- the test of all lines
 abbrev pub all_lead : Signatures → List Symbol → Bool
@@ -104,16 +106,17 @@ all_lead g (_ ∷ l) = all_lead g l
 
 -- what the test says of the rules
 pub record Leads (r : Rules) (g : Signatures) : Type 0 where
-  pub key : (n c : ℕ) (alt : Bool × List Symbol) → r.keyed n c ≡ Some alt → leads g (g.part n) alt.1 None (entered alt.0 (g.part n).takes) ≡ true
+  pub key : (n c : ℕ) (alt : Bool × List Symbol) → r.keyed n c ≡ Some alt → leads g (g.part n) alt.1 None (entered g c alt.0 (g.part n).takes) ≡ true
   pub other : (n : ℕ) (b : List Symbol) → r.otherwise n ≡ Some b → leads g (g.part n) b None (g.part n).takes ≡ true
 
 -- what is written for a part that takes nothing fits and leaves these kinds
-abbrev pub Leaves : (ℕ → Effect) → List ℕ → Reading → Type 0
-Leaves a k (reading.Whole to out) = kinds a out.items [] ≡ Some k
-Leaves a k (reading.Fault to) = Unit {0}
+abbrev pub Leaves : Signatures → List ℕ → Reading → Type 0
+Leaves g k (reading.Whole to out) = kinds g out.items [] ≡ Some k
+Leaves g k (reading.Fault to) = Unit {0}
 
+-- what is no action takes and leaves the kind 0, which no value has
 abbrev pub effect_or : Option Effect → Effect
-effect_or None = record { takes = 0 ∷ []; leaves = [] }
+effect_or None = record { takes = 0 ∷ []; leaves = 0 ∷ [] }
 effect_or (Some r) = r
 
 abbrev pub signature_or : Option Signature → Signature

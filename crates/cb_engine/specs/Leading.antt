@@ -1,18 +1,18 @@
 -- What is spelled writes items that fit.
-use Rattle.std.proofs.Common.{◌≡◌, ℕ, zero, suc, Bool, true, false, not, ◌&&◌, eqb, List, [], ◌∷◌, ◌++◌, refl, ap, append_assoc, arith, cond, ◌≢◌}
+use Rattle.std.proofs.Common.{◌≡◌, ℕ, zero, suc, Bool, true, false, not, ◌&&◌, eqb, List, [], ◌∷◌, ◌++◌, refl, ap, append_assoc, arith, cond, ◌≢◌, subst, ◌||◌}
 use Rattle.std.specs.Prelude.{Option, Some, None}
 use Rattle.cb_engine.specs.declared.Symbol.{Symbol}
 use Rattle.cb_engine.specs.declared.Symbol.TheVariants.{Take, Keep, Act, Part, Gives, Then, Line}
 use Rattle.cb_engine.specs.declared.Terminal.{Terminal}
 use Rattle.cb_engine.specs.declared.Item.{Item}
-use Rattle.cb_engine.specs.Rules.{Rules, Runs, chosen, kept, group}
+use Rattle.cb_engine.specs.Rules.{Rules, Runs, chosen, kept, group, admits}
 use Rattle.cb_engine.specs.Rules.Runs.{ends, takes, keeps, acts, keys, others, goes_on}
 use Rattle.cb_engine.specs.Tables.{body, find_line, rules_of, keyed_in, either}
 use Rattle.cb_engine.specs.declared.Reading.{Reading}
 use Rattle.cb_engine.specs.declared.Reading.TheVariants as reading
 use Rattle.cb_engine.specs.Readings.{IsReading}
-use Rattle.cb_engine.specs.Deciding.{both, body_some, no_zero}
-use Rattle.cb_engine.specs.Kinds.{Leaves, Effect, Signature, Signatures, strip, kinds, same_kinds, ends_plain, ends_sorted, when_left, onward, leads, entered, line_leads, all_lead, Leads}
+use Rattle.cb_engine.specs.Deciding.{both, body_some, no_zero, group_group}
+use Rattle.cb_engine.specs.Kinds.{Leaves, Signature, Signatures, strip, kinds, same_kinds, ends_plain, ends_sorted, when_left, onward, leads, entered, line_leads, all_lead, Leads}
 
 same_number : (a b : ℕ) → eqb a b ≡ true → a ≡ b
 same_number a b e = grind arith
@@ -107,7 +107,7 @@ module _ (g : Signatures) (top s : Signature) (k : List Symbol) (r : List ℕ) (
   pub join : (b : List Symbol) (m : Option ℕ) (n : List ℕ) → leads g s b m n ≡ true → leads g top (b ++ k) m (n ++ r) ≡ true
   join [] None n e = join_end n e
   join (Take c ∷ b) None n e = join b None n e
-  join (Keep c ∷ b) None n e = join b None (1 ∷ n) e
+  join (Keep c ∷ b) None n e = join b None (g.word (group c) ∷ n) e
   join (Act a ∷ b) None n e =
       let l = left_some (λ x. leads g s b None ((g.action a).leaves ++ x)) (strip (g.action a).takes n) e in
       rw (strip_under (g.action a).takes n r l.0 l.1, ← append_assoc (g.action a).leaves) (join b None ((g.action a).leaves ++ l.0) l.2)
@@ -124,31 +124,44 @@ module _ (g : Signatures) (top s : Signature) (k : List Symbol) (r : List ℕ) (
   join (Gives p ∷ b) (Some m) n e = absurd (cc)
   join (Line l0 l1 l2 ∷ b) (Some m) n e = absurd (cc)
 
-kinds_kept : (a : ℕ → Effect) (keep : Bool) (t : Terminal) (out : List Item) (n : List ℕ) → kinds a (kept keep t out) n ≡ kinds a out (entered keep n)
-kinds_kept a true t out n = refl
-kinds_kept a false t out n = refl
+kinds_kept : (g : Signatures) (keep : Bool) (t : Terminal) (out : List Item) (n : List ℕ) → kinds g (kept keep t out) n ≡ kinds g out (entered g t.class keep n)
+kinds_kept g true t out n = refl
+kinds_kept g false t out n = refl
 
-entered_under : (keep : Bool) (n r : List ℕ) → entered keep n ++ r ≡ entered keep (n ++ r)
-entered_under true n r = refl
-entered_under false n r = refl
+entered_under : (g : Signatures) (c : ℕ) (keep : Bool) (n r : List ℕ) → entered g c keep n ++ r ≡ entered g c keep (n ++ r)
+entered_under g c true n r = refl
+entered_under g c false n r = refl
+
+entered_group : (g : Signatures) (c : ℕ) (keep : Bool) (n : List ℕ) → entered g (group c) keep n ≡ entered g c keep n
+entered_group g c true n = rw (group_group c) refl
+entered_group g c false n = refl
+
+-- a token that is admitted has the group of the class that admits it
+admitted_group : (c d : ℕ) → admits c d ≡ true → group c ≡ group d
+admitted_group c d e = go (eqb c d) refl e
+  where
+    go : (b : Bool) → eqb c d ≡ b → (b || eqb c (group d)) ≡ true → group c ≡ group d
+    go true f e = let q : c ≡ d = same_number c d f in rw q refl
+    go false f e = let q : c ≡ group d = same_number c (group d) e in rw (q, group_group d) refl
 
 -- what is spelled leads to what the symbols leave
-pub led : {r : Rules} {k : List Symbol} {ts : List Terminal} {out : List Item} (g : Signatures) (top : Signature) → Leads r g → Runs r true k ts out → (n : List ℕ) → leads g top k None n ≡ true → kinds g.action out n ≡ Some top.leaves
+pub led : {r : Rules} {k : List Symbol} {ts : List Terminal} {out : List Item} (g : Signatures) (top : Signature) → Leads r g → Runs r true k ts out → (n : List ℕ) → leads g top k None n ≡ true → kinds g out n ≡ Some top.leaves
 led g top q (ends {k = k} e) n l = go k (e refl) l
   where
     go : (k : List Symbol) → k ≡ [] → leads g top k None n ≡ true → Some n ≡ Some top.leaves
     go [] e l = ap (λ (y : List ℕ). Some y) (kinds_same n top.leaves (both l).1)
     go (x ∷ k) e l = absurd (cc)
 led g top q (takes e m) n l = led g top q m n l
-led g top q (keeps e m) n l = led g top q m (1 ∷ n) l
+led g top q (keeps {c = c} {k = k} {t = t} e m) n l =
+    led g top q m (g.word (group t.class) ∷ n) (subst (λ (y : ℕ). leads g top k None (g.word y ∷ n) ≡ true) (admitted_group c t.class e) l)
 led g top q (acts {a = a} {k = k} m) n l =
     let s = left_some (λ x. leads g top k None ((g.action a).leaves ++ x)) (strip (g.action a).takes n) l in
     rw s.1 (led g top q m ((g.action a).leaves ++ s.0) s.2)
 led g top q (keys {n = p} {k = k} {t = t} {out = out} keep b e m) n l =
     let s = left_some (onward (λ x. leads g top k None x) (λ i x. leads g top k (Some i) x) (g.part p)) (strip (g.part p).takes n) l in
     let i : n ≡ (g.part p).takes ++ s.0 = strip_is (g.part p).takes n s.0 s.1 in
-    let j = join g top (g.part p) k s.0 s.2 b None (entered keep (g.part p).takes) (q.key p t.class (keep, b) e) in
-    rw (kinds_kept g.action keep t out n, i) (led g top q m (entered keep ((g.part p).takes ++ s.0)) (rw entered_under at j))
+    let j = join g top (g.part p) k s.0 s.2 b None (entered g t.class keep (g.part p).takes) (q.key p t.class (keep, b) e) in
+    rw (kinds_kept g keep t out n, i) (led g top q m (entered g t.class keep ((g.part p).takes ++ s.0)) (rw entered_under at j))
 led g top q (others {n = p} {k = k} b e m) n l =
     let s = left_some (onward (λ x. leads g top k None x) (λ i x. leads g top k (Some i) x) (g.part p)) (strip (g.part p).takes n) l in
     let i : n ≡ (g.part p).takes ++ s.0 = strip_is (g.part p).takes n s.0 s.1 in
@@ -182,19 +195,19 @@ tested g l e = record {
   other = λ n b f. let o = body_some (find_line l n 0) b f in rw o.2 (found_leads g l n 0 o.0 e o.1);
 }
   where
-    at_key : (n c : ℕ) (alt : Bool × List Symbol) → c ≢ 0 → line_leads g n c alt.0 alt.1 ≡ true → leads g (g.part n) alt.1 None (entered alt.0 (g.part n).takes) ≡ true
+    at_key : (n c : ℕ) (alt : Bool × List Symbol) → c ≢ 0 → line_leads g n c alt.0 alt.1 ≡ true → leads g (g.part n) alt.1 None (entered g c alt.0 (g.part n).takes) ≡ true
     at_key n zero alt z q = absurd (z refl)
     at_key n (suc c) alt z q = q
 
-    key_leads : (n c : ℕ) (alt : Bool × List Symbol) → keyed_in l n c ≡ Some alt → leads g (g.part n) alt.1 None (entered alt.0 (g.part n).takes) ≡ true
+    key_leads : (n c : ℕ) (alt : Bool × List Symbol) → keyed_in l n c ≡ Some alt → leads g (g.part n) alt.1 None (entered g c alt.0 (g.part n).takes) ≡ true
     key_leads n zero alt f = absurd (cc)
     key_leads n (suc c) alt f = go (find_line l n (suc c)) refl f
       where
-        go : (o : Option (Bool × List Symbol)) → find_line l n (suc c) ≡ o → either o (find_line l n (group (suc c))) ≡ Some alt → leads g (g.part n) alt.1 None (entered alt.0 (g.part n).takes) ≡ true
+        go : (o : Option (Bool × List Symbol)) → find_line l n (suc c) ≡ o → either o (find_line l n (group (suc c))) ≡ Some alt → leads g (g.part n) alt.1 None (entered g (suc c) alt.0 (g.part n).takes) ≡ true
         go (Some x) h f = found_leads g l n (suc c) alt e (cc)
-        go None h f = at_key n (group (suc c)) alt (λ z. no_zero (suc c) (omega arith) z) (found_leads g l n (group (suc c)) alt e f)
+        go None h f = rw (entered_group g (suc c) alt.0 (g.part n).takes) at (at_key n (group (suc c)) alt (λ z. no_zero (suc c) (omega arith) z) (found_leads g l n (group (suc c)) alt e f))
 
 -- so it is with what a reading writes
-pub reading_leaves : (r : Rules) (g : Signatures) (top : Signature) (n : ℕ) (ts : List Terminal) (answer : Reading) → Leads r g → leads g top (Part n ∷ []) None [] ≡ true → IsReading r (Part n ∷ []) ts answer → Leaves g.action top.leaves answer
+pub reading_leaves : (r : Rules) (g : Signatures) (top : Signature) (n : ℕ) (ts : List Terminal) (answer : Reading) → Leads r g → leads g top (Part n ∷ []) None [] ≡ true → IsReading r (Part n ∷ []) ts answer → Leaves g top.leaves answer
 reading_leaves r g top n ts (reading.Whole to out) q l e = led g top q e.spelled [] l
 reading_leaves r g top n ts (reading.Fault to) q l e = tt

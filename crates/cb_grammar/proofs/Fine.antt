@@ -36,7 +36,7 @@ all_alone = refl
 all_fit : all_lead signatures GRAMMAR ≡ true
 all_fit = refl
 
-pub leaves_if : (p : Part) (ts : List Terminal) (result : Result Reading AllocError) → IfOk result (λ reading. IsReading language (symbols_of p) ts reading) → IfOk result (λ reading. Leaves signatures.action (kinds_left p) reading)
+pub leaves_if : (p : Part) (ts : List Terminal) (result : Result Reading AllocError) → IfOk result (λ reading. IsReading language (symbols_of p) ts reading) → IfOk result (λ reading. Leaves signatures (kinds_left p) reading)
 unfolding language
 leaves_if p ts (Ok reading) e = reading_leaves (rules_of GRAMMAR) signatures (signature false [] (kinds_left p) []) (number_of p) ts reading (tested signatures GRAMMAR all_fit) (part_fits p) e
 leaves_if p ts (Err x) e = tt

@@ -19,23 +19,23 @@ more_text = 5
 abbrev pub system_text : ℕ
 system_text = 6
 
-abbrev pub controllers : ℕ
-controllers = 7
-
 abbrev pub more_controllers : ℕ
-more_controllers = 8
+more_controllers = 7
 
 abbrev pub system : ℕ
-system = 9
+system = 8
 
 abbrev pub machine : ℕ
-machine = 10
+machine = 9
 
 abbrev pub names : ℕ
-names = 11
+names = 10
 
-abbrev pub set : ℕ
-set = 12
+abbrev pub enumerated_set : ℕ
+enumerated_set = 11
+
+abbrev pub constants : ℕ
+constants = 12
 
 abbrev pub property : ℕ
 property = 13
@@ -43,260 +43,260 @@ property = 13
 abbrev pub literal : ℕ
 literal = 14
 
+abbrev pub state : ℕ
+state = 15
+
 abbrev pub operation : ℕ
-operation = 15
+operation = 16
 
 abbrev pub operation_rest : ℕ
-operation_rest = 16
+operation_rest = 17
 
 abbrev pub more_results : ℕ
-more_results = 17
+more_results = 18
 
 abbrev pub signature : ℕ
-signature = 18
+signature = 19
 
 abbrev pub body : ℕ
-body = 19
+body = 20
 
 abbrev pub substitution : ℕ
-substitution = 20
+substitution = 21
 
 abbrev pub simple : ℕ
-simple = 21
+simple = 22
 
 abbrev pub simple_rest : ℕ
-simple_rest = 22
+simple_rest = 23
 
 abbrev pub if_rest : ℕ
-if_rest = 23
+if_rest = 24
 
 abbrev pub domain : ℕ
-domain = 24
+domain = 25
 
 abbrev pub domain_rest : ℕ
-domain_rest = 25
+domain_rest = 26
 
 abbrev pub other_bound : ℕ
-other_bound = 26
+other_bound = 27
 
 abbrev pub bound : ℕ
-bound = 27
+bound = 28
 
-abbrev pub plain_bound : ℕ
-plain_bound = 28
+abbrev pub end : ℕ
+end = 29
+
+abbrev pub other_end : ℕ
+other_end = 30
 
 abbrev pub channels : ℕ
-channels = 29
+channels = 31
 
 abbrev pub channel : ℕ
-channel = 30
+channel = 32
 
 abbrev pub names_end : ℕ
-names_end = 31
+names_end = 33
 
 abbrev pub controller : ℕ
-controller = 32
+controller = 34
+
+abbrev pub controller_rest : ℕ
+controller_rest = 35
 
 abbrev pub definition : ℕ
-definition = 33
+definition = 36
 
 abbrev pub parameters : ℕ
-parameters = 34
+parameters = 37
 
 abbrev pub parameter : ℕ
-parameter = 35
+parameter = 38
 
 abbrev pub process : ℕ
-process = 36
+process = 39
 
 abbrev pub process_tail : ℕ
-process_tail = 37
+process_tail = 40
 
 abbrev pub more_external : ℕ
-more_external = 38
+more_external = 41
 
 abbrev pub more_internal : ℕ
-more_internal = 39
+more_internal = 42
 
 abbrev pub step : ℕ
-step = 40
+step = 43
 
 abbrev pub step_rest : ℕ
-step_rest = 41
+step_rest = 44
 
 abbrev pub terms_end : ℕ
-terms_end = 42
+terms_end = 45
 
 abbrev pub guard : ℕ
-guard = 43
+guard = 46
 
 abbrev pub formula : ℕ
-formula = 44
+formula = 47
 
 abbrev pub formula_tail : ℕ
-formula_tail = 45
+formula_tail = 48
 
 abbrev pub and_tail : ℕ
-and_tail = 46
+and_tail = 49
 
 abbrev pub or_tail : ℕ
-or_tail = 47
+or_tail = 50
 
 abbrev pub implies_tail : ℕ
-implies_tail = 48
+implies_tail = 51
 
 abbrev pub part : ℕ
-part = 49
+part = 52
 
 abbrev pub part_tail : ℕ
-part_tail = 50
+part_tail = 53
 
 abbrev pub unit : ℕ
-unit = 51
+unit = 54
 
 abbrev pub relation : ℕ
-relation = 52
+relation = 55
 
 abbrev pub after_formula : ℕ
-after_formula = 53
+after_formula = 56
 
 abbrev pub after_term : ℕ
-after_term = 54
+after_term = 57
 
 abbrev pub formula_or_term : ℕ
-formula_or_term = 55
+formula_or_term = 58
 
 abbrev pub inside_formula : ℕ
-inside_formula = 56
+inside_formula = 59
 
 abbrev pub inside_term : ℕ
-inside_term = 57
+inside_term = 60
 
 abbrev pub relation_or_none : ℕ
-relation_or_none = 58
+relation_or_none = 61
 
 abbrev pub term : ℕ
-term = 59
+term = 62
 
 abbrev pub term_tail : ℕ
-term_tail = 60
+term_tail = 63
 
 abbrev pub union_tail : ℕ
-union_tail = 61
+union_tail = 64
 
 abbrev pub intersection_tail : ℕ
-intersection_tail = 62
+intersection_tail = 65
 
 abbrev pub product_tail : ℕ
-product_tail = 63
+product_tail = 66
 
 abbrev pub sum_tail : ℕ
-sum_tail = 64
+sum_tail = 67
 
 abbrev pub range_tail : ℕ
-range_tail = 65
+range_tail = 68
 
 abbrev pub sum : ℕ
-sum = 66
+sum = 69
 
 abbrev pub product : ℕ
-product = 67
+product = 70
 
 abbrev pub factor : ℕ
-factor = 68
+factor = 71
 
 abbrev pub factor_start : ℕ
-factor_start = 69
+factor_start = 72
 
 abbrev pub set_end : ℕ
-set_end = 70
+set_end = 73
 
 abbrev pub terms : ℕ
-terms = 71
+terms = 74
 
 abbrev pub proofs : ℕ
-proofs = 72
+proofs = 75
 
 abbrev pub obligation : ℕ
-obligation = 73
-
-abbrev pub of_owner : ℕ
-of_owner = 74
+obligation = 76
 
 abbrev pub of_part : ℕ
-of_part = 75
+of_part = 77
 
 abbrev pub node : ℕ
-node = 76
+node = 78
 
 abbrev pub no_premise : ℕ
-no_premise = 77
+no_premise = 79
 
 abbrev pub one_premise : ℕ
-one_premise = 78
+one_premise = 80
 
 abbrev pub two_premises : ℕ
-two_premises = 79
+two_premises = 81
 
 abbrev pub hypothesis_one_premise : ℕ
-hypothesis_one_premise = 80
+hypothesis_one_premise = 82
 
 abbrev pub hypothesis_two_premises : ℕ
-hypothesis_two_premises = 81
+hypothesis_two_premises = 83
 
 abbrev pub term_one_premise : ℕ
-term_one_premise = 82
+term_one_premise = 84
 
 abbrev pub two_terms_two_premises : ℕ
-two_terms_two_premises = 83
+two_terms_two_premises = 85
 
 abbrev pub one_node : ℕ
-one_node = 84
+one_node = 86
 
 abbrev pub two_nodes : ℕ
-two_nodes = 85
+two_nodes = 87
 
 abbrev pub three_nodes : ℕ
-three_nodes = 86
+three_nodes = 88
 
 abbrev pub some_nodes : ℕ
-some_nodes = 87
+some_nodes = 89
 
 abbrev pub row : ℕ
-row = 88
+row = 90
 
 abbrev pub before_proofs_1 : ℕ
-before_proofs_1 = 89
+before_proofs_1 = 91
 
 abbrev pub text_1 : ℕ
-text_1 = 90
+text_1 = 92
 
 abbrev pub machine_1 : ℕ
-machine_1 = 91
+machine_1 = 93
 
 abbrev pub machine_2 : ℕ
-machine_2 = 92
+machine_2 = 94
 
 abbrev pub machine_3 : ℕ
-machine_3 = 93
+machine_3 = 95
 
 abbrev pub machine_4 : ℕ
-machine_4 = 94
+machine_4 = 96
 
 abbrev pub machine_5 : ℕ
-machine_5 = 95
-
-abbrev pub machine_6 : ℕ
-machine_6 = 96
-
-abbrev pub machine_7 : ℕ
-machine_7 = 97
-
-abbrev pub machine_8 : ℕ
-machine_8 = 98
+machine_5 = 97
 
 abbrev pub names_1 : ℕ
-names_1 = 99
+names_1 = 98
+
+abbrev pub constants_1 : ℕ
+constants_1 = 99
 
 abbrev pub substitution_1 : ℕ
 substitution_1 = 100
@@ -310,14 +310,14 @@ channels_1 = 102
 abbrev pub channel_1 : ℕ
 channel_1 = 103
 
-abbrev pub controller_1 : ℕ
-controller_1 = 104
+abbrev pub controller_rest_1 : ℕ
+controller_rest_1 = 104
 
-abbrev pub controller_2 : ℕ
-controller_2 = 105
+abbrev pub controller_rest_2 : ℕ
+controller_rest_2 = 105
 
-abbrev pub controller_3 : ℕ
-controller_3 = 106
+abbrev pub controller_rest_3 : ℕ
+controller_rest_3 = 106
 
 abbrev pub definition_1 : ℕ
 definition_1 = 107

@@ -8,21 +8,21 @@ abbrev pub number_of : Part → ℕ
 number_of part.Whole = 1
 number_of part.Text = 2
 number_of part.Proofs = 3
-number_of part.Machine = 10
-number_of part.Channels = 29
-number_of part.Controller = 32
-number_of part.Formula = 44
-number_of part.Term = 59
-number_of part.Domain = 24
+number_of part.Machine = 9
+number_of part.Channels = 31
+number_of part.Controller = 34
+number_of part.Formula = 47
+number_of part.Term = 62
+number_of part.Domain = 25
 
 -- the kinds of the values that it leaves, the last one first
 abbrev pub kinds_left : Part → List ℕ
-kinds_left part.Whole = 6 ∷ 2 ∷ []
-kinds_left part.Text = 2 ∷ []
-kinds_left part.Proofs = 6 ∷ []
-kinds_left part.Machine = 3 ∷ []
-kinds_left part.Channels = 4 ∷ []
-kinds_left part.Controller = 5 ∷ []
-kinds_left part.Formula = 20 ∷ []
-kinds_left part.Term = 21 ∷ []
-kinds_left part.Domain = 12 ∷ []
+kinds_left part.Whole = 23 ∷ 17 ∷ []
+kinds_left part.Text = 17 ∷ []
+kinds_left part.Proofs = 23 ∷ []
+kinds_left part.Machine = 19 ∷ []
+kinds_left part.Channels = 20 ∷ []
+kinds_left part.Controller = 22 ∷ []
+kinds_left part.Formula = 42 ∷ []
+kinds_left part.Term = 43 ∷ []
+kinds_left part.Domain = 32 ∷ []

@@ -92,7 +92,7 @@ abbrev pub plus_product : List Symbol
 plus_product = Keep (sign_class sign.Plus) ∷ Part part.product ∷ Act action.BINARY ∷ []
 
 abbrev pub minus_product : List Symbol
-minus_product = Keep (sign_class sign.Minus) ∷ Part part.product ∷ Act action.BINARY ∷ []
+minus_product = Keep (sign_class sign.Minus) ∷ Part part.product ∷ Act action.SUBTRACT ∷ []
 
 pub data SumLine : List Symbol → Type 0 where
   sum : (x : List Symbol) → Repeated (plus_product ∷ minus_product ∷ []) x → SumLine (Part part.product ∷ x)

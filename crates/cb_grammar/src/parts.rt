@@ -34,11 +34,11 @@ pub(crate) fn number_of_part(part: Part) -> u8
         Part::Whole => 1,
         Part::Text => 2,
         Part::Proofs => 3,
-        Part::Machine => 10,
-        Part::Channels => 29,
-        Part::Controller => 32,
-        Part::Formula => 44,
-        Part::Term => 59,
-        Part::Domain => 24,
+        Part::Machine => 9,
+        Part::Channels => 31,
+        Part::Controller => 34,
+        Part::Formula => 47,
+        Part::Term => 62,
+        Part::Domain => 25,
     }
 }

@@ -57,7 +57,7 @@ pub struct Written {
 // the terminals read as the part
 fn read_terminals(alloc: Global, terminals: &[Terminal], part: Part) -> Result<Reading, Memory>
     ensures reading { IfOk result (λ reading. IsReading language (symbols_of part) terminals.now reading) }
-    ensures fits { IfOk result (λ reading. Leaves signatures.action (kinds_left part) reading) }
+    ensures fits { IfOk result (λ reading. Leaves signatures (kinds_left part) reading) }
 {
     let places = index(alloc, &GRAMMAR)?;
     read(
@@ -139,7 +139,7 @@ pub fn read_part(
 ) -> Result<Written, SyntaxFault>
     requires { depth ≤ 200 }
     ensures reads { IfOk result (λ w. IsRead part depth opened tokens.now w.taken w.items.items) }
-    ensures fits { IfOk result (λ w. kinds signatures.action w.items.items [] ≡ Some (kinds_left part)) }
+    ensures fits { IfOk result (λ w. kinds signatures w.items.items [] ≡ Some (kinds_left part)) }
     ensures fault { IfErr result (Misread part depth opened tokens.now) }
 {
     let terminals = classes(alloc, tokens, opened)?;

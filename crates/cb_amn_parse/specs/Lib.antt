@@ -1,0 +1,9 @@
+pub mod Lexemes
+pub mod Words
+pub mod Formulas
+pub mod Machines
+pub mod Processes
+pub mod Values
+pub mod Own
+pub mod Spelling
+pub mod Laws
