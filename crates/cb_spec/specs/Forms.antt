@@ -77,8 +77,11 @@ abbrev pub with_both : Option Form → Option Form → (Form → Form → Option
 with_both (Some a) (Some b) g = g a b
 with_both a b g = None
 
--- the left operand's, where both are sets of one kind
+-- the left operand's, where both are sets of one kind. `{}` on the left has the kind of the other
 abbrev pub left_set : Form → Form → Option Form
+left_set Empty (Numbers lo hi) = Some (Numbers (pos 1) (pos 0))
+left_set Empty TruthSet = Some TruthSet
+left_set Empty (Elements k) = Some (Elements k)
 left_set a b = if is_some_form (joined a b) then Some a else None
 
 abbrev pub product : ℤ → ℤ → ℤ → ℤ → Form
