@@ -1,3 +1,5 @@
 pub mod KindLemmas
 pub mod KindSound
+pub mod MoreNames
+pub mod PremiseLemmas
 pub mod SetLemmas

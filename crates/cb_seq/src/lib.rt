@@ -3,6 +3,8 @@
 #![tactic(auto)]
 
 pub mod cert;
+pub mod kinds;
 pub mod laws;
+pub mod premise;
 pub mod rule;
 pub mod sequent;

@@ -1,0 +1,53 @@
+-- Which arguments of rules fit, where names have kinds.
+use Rattle.std.specs.Prelude.{ℕ, ◌==◌, Bool, true, false, ◌&&◌, List, [], Option, Some, None}
+use Rattle.cb_term.specs.declared.name.Name.{Name}
+use Rattle.cb_term.specs.declared.kind.Kind.{Kind}
+use Rattle.cb_term.specs.declared.kind.Kind.TheVariants as kind
+use Rattle.cb_term.specs.Kinds.{same_base, same_kind}
+use Rattle.cb_seq.specs.declared.rule.FormulaArgument.{FormulaArgument}
+use Rattle.cb_seq.specs.declared.rule.FormulaArgument.TheVariants as formula
+use Rattle.cb_seq.specs.declared.rule.TermArgument.{TermArgument}
+use Rattle.cb_seq.specs.declared.rule.TermArgument.TheVariants as term
+use Rattle.cb_seq.specs.declared.rule.Rule.{Rule}
+use Rattle.cb_seq.specs.declared.rule.Rule.TheVariants as rule
+use Rattle.cb_seq.specs.Kinds.{kind_of, fits}
+
+abbrev pub formula_fits : List ℕ → List (Name × Kind) → FormulaArgument → Bool
+formula_fits sizes names (formula.Formula f) = fits sizes names [] f
+formula_fits sizes names formula.Unclear = false
+
+abbrev pub is_kind : Kind → Option Kind → Bool
+is_kind k None = false
+is_kind k (Some l) = same_kind l k
+
+-- the term has the kind that is written with it
+abbrev pub term_fits : List ℕ → List (Name × Kind) → TermArgument → Bool
+term_fits sizes names (term.Term t k) = is_kind k (kind_of sizes names [] t)
+term_fits sizes names term.Unclear = false
+
+abbrev pub arguments_fit : List ℕ → List (Name × Kind) → Rule → Bool
+arguments_fit sizes names (rule.Cut f) = formula_fits sizes names f
+arguments_fit sizes names (rule.Cases f) = formula_fits sizes names f
+arguments_fit sizes names (rule.ExR t) = term_fits sizes names t
+arguments_fit sizes names (rule.AllL h t) = term_fits sizes names t
+arguments_fit sizes names (rule.BoolCases t) = term_fits sizes names t
+arguments_fit sizes names (rule.Elems t) = term_fits sizes names t
+arguments_fit sizes names (rule.Split s t) = term_fits sizes names s && term_fits sizes names t
+arguments_fit sizes names (rule.DivMod t d) = term_fits sizes names t
+arguments_fit sizes names (rule.MulSign s t) = term_fits sizes names s && term_fits sizes names t
+arguments_fit sizes names (rule.SubsetL h t) = term_fits sizes names t
+arguments_fit sizes names (rule.CardPos s) = term_fits sizes names s
+arguments_fit sizes names (rule.CardAdd s t) = term_fits sizes names s && term_fits sizes names t
+arguments_fit sizes names (rule.CardDel s t) = term_fits sizes names s && term_fits sizes names t
+arguments_fit sizes names (rule.CardSub s t) = term_fits sizes names s && term_fits sizes names t
+arguments_fit sizes names r = true
+
+-- a value of the first kind is one of the second
+abbrev pub counts_as : Kind → Kind → Bool
+counts_as kind.Integer kind.Integer = true
+counts_as kind.Truth kind.Truth = true
+counts_as (kind.Elem j) (kind.Elem k) = j == k
+counts_as (kind.SetOf b) (kind.SetOf c) = same_base b c
+counts_as kind.EmptySet (kind.SetOf c) = true
+counts_as kind.EmptySet kind.EmptySet = true
+counts_as k l = false
