@@ -1,0 +1,5 @@
+pub mod MemberLemmas
+pub mod RuleSound
+pub mod SetFacts
+pub mod SetKinds
+pub mod SetLaws
