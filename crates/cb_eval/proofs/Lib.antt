@@ -1,0 +1,10 @@
+pub mod SetLemmas
+pub mod ClosedLemmas
+pub mod SoundLemmas
+pub mod EvaluateLemmas
+pub mod WalkLemmas
+pub mod QuantifierLemmas
+pub mod TellLemmas
+pub mod FormLemmas
+pub mod TypedLemmas
+pub mod ExampleLemmas

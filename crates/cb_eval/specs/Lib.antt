@@ -1,0 +1,7 @@
+pub mod ClosedTruth
+pub mod Evaluation
+pub mod Walks
+pub mod WideView
+pub mod Laws
+pub mod TypedIn
+pub mod Example
