@@ -1,0 +1,9 @@
+pub mod Stores
+pub mod NameLemmas
+pub mod Formulas
+pub mod Runs
+pub mod Transforms
+pub mod Cutting
+pub mod FreeNames
+pub mod BranchCounts
+pub mod Calls
