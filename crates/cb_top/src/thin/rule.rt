@@ -2,6 +2,10 @@
 use crate::thin::Misfit;
 use crate::thin::formula::{Atom, Comparison, Relation};
 use crate::thin::proof::Rule;
+use cb_eval::closed::closed_truth;
+use cb_term::sign::{RelSign, TermSign};
+use cb_term::table::SetTable;
+use cb_term::tree::{Formula, Term};
 use std::alloc::{AllocError, Global};
 
 // A sequent that isn't derived yet: its goal, and how many hypotheses it has beside those given.
@@ -49,7 +53,7 @@ impl Walk<'_> {
         let Sequent { added, goal } = self.sequents.pop().ok_or(Misfit::Unfit)?;
         self.added.truncate(added);
         match rule {
-            Rule::Eval => evaluates(&goal),
+            Rule::Eval => evaluates(alloc, &goal),
             Rule::Hyp(place) => {
                 if *self.hypothesis(*place)? == goal {
                     Ok(())
@@ -125,38 +129,59 @@ fn bounds(relation: &Relation) -> Result<(Relation, Relation), Misfit> {
 }
 
 // A relation without names is true.
-fn evaluates(relation: &Relation) -> Result<(), Misfit> {
-    let holds = match relation {
+fn evaluates(alloc: Global, relation: &Relation) -> Result<(), Misfit> {
+    let sets = SetTable {
+        sets: Vec::new(alloc),
+    };
+    let formula = formula(alloc, relation)?;
+    match closed_truth(alloc, &sets, &formula)? {
+        Some(true) => Ok(()),
+        _ => Err(Misfit::Unfit),
+    }
+}
+
+// The formula of a relation without names.
+fn formula(alloc: Global, relation: &Relation) -> Result<Formula, Misfit> {
+    match relation {
         Relation::Compare {
             comparison,
             left,
             right,
         } => {
-            let (left, right) = (value(left)?, value(right)?);
-            match comparison {
-                Comparison::Equal => left == right,
-                Comparison::Less => left < right,
-                Comparison::AtMost => left <= right,
-            }
+            let sign = match comparison {
+                Comparison::Equal => RelSign::Equal,
+                Comparison::Less => RelSign::Less,
+                Comparison::AtMost => RelSign::AtMost,
+            };
+            Ok(Formula::rel(sign, term(alloc, left)?, term(alloc, right)?))
         }
-        Relation::Member { term, low, high } => {
-            let term = value(term)?;
-            value(low)? <= term && term <= value(high)?
+        Relation::Member {
+            term: item,
+            low,
+            high,
+        } => {
+            let (low, high) = (term(alloc, low)?, term(alloc, high)?);
+            let range = Term::bin(alloc, TermSign::Range, low, high)?;
+            Ok(Formula::rel(RelSign::Member, term(alloc, item)?, range))
         }
-    };
-    if holds { Ok(()) } else { Err(Misfit::Unfit) }
+    }
 }
 
-// The value of a sum of numbers.
-fn value(sum: &[Atom]) -> Result<i64, Misfit> {
-    let mut total = 0i64;
-    for atom in sum {
-        let Atom::Number(number) = atom else {
-            return Err(Misfit::Unfit);
-        };
-        total = total.checked_add(*number).ok_or(Misfit::Unfit)?;
+// The term of a sum of numbers.
+fn term(alloc: Global, sum: &[Atom]) -> Result<Term, Misfit> {
+    let (first, rest) = sum.split_first().ok_or(Misfit::Unfit)?;
+    let mut whole = number(first)?;
+    for atom in rest {
+        whole = Term::bin(alloc, TermSign::Add, whole, number(atom)?)?;
     }
-    Ok(total)
+    Ok(whole)
+}
+
+fn number(atom: &Atom) -> Result<Term, Misfit> {
+    match atom {
+        Atom::Number(number) => Ok(Term::num(*number)),
+        _ => Err(Misfit::Unfit),
+    }
 }
 
 // A linear form: names with their factors, and a number.
