@@ -1,0 +1,7 @@
+//! The rules of proof on connectives and booleans: where each applies, its premises, and that it is sound.
+#![tactic(auto)]
+
+pub mod laws;
+pub mod premises;
+#[cfg(test)]
+mod tests;

@@ -1,0 +1,5 @@
+pub mod EqualLemmas
+pub mod Mapping
+pub mod OpenLemmas
+pub mod ReplaceLemmas
+pub mod RuleSound

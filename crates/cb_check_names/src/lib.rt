@@ -1,0 +1,8 @@
+//! The rules of proof on quantifiers and equations: where each applies, its premises, and that it is sound.
+#![tactic(auto)]
+
+pub mod laws;
+pub mod premises;
+pub mod replace;
+#[cfg(test)]
+mod tests;

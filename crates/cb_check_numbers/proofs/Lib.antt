@@ -1,0 +1,4 @@
+pub mod LinearSound
+pub mod NumberFacts
+pub mod RowSteps
+pub mod RuleSound
