@@ -1,13 +1,14 @@
 //! The judging of one machine whose formulas are conjunctions of relations between sums.
 
 mod formula;
+mod list;
 mod machine;
 mod proof;
 mod reader;
-mod rule;
 mod verdicts;
 
 use crate::outcome::Verdict;
+use crate::thin::list::obligations;
 use crate::thin::machine::read_machine;
 use crate::thin::proof::read_proofs;
 use crate::thin::reader::Reader;
@@ -63,8 +64,9 @@ fn read_and_check(alloc: Global, tokens: &[Token]) -> Result<Judged, Misfit> {
     let mut reader = Reader::new(tokens);
     let machine = read_machine(alloc, &mut reader)?;
     let proofs = read_proofs(alloc, &mut reader)?;
-    match assign_proofs(alloc, &machine, &proofs)? {
-        Assigned::Rules(rules) => Ok(print_verdicts(alloc, &machine, &rules)?),
+    let list = obligations(alloc, &machine)?;
+    match assign_proofs(alloc, &list, &proofs)? {
+        Assigned::Certs(certs) => Ok(print_verdicts(alloc, list, &certs)?),
         Assigned::Unknown(name) => Ok(Judged::UnknownProof(name)),
         Assigned::Double(name) => Ok(Judged::DoubleProof(name)),
     }

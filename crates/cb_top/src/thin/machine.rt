@@ -13,6 +13,7 @@ const MOST_VALUES: usize = 8;
 #[derive(Drop)]
 pub(super) struct Machine<'a> {
     pub(super) name: &'a [u8],
+    pub(super) variables: Vec<&'a [u8]>,
     pub(super) groups: Vec<Group<'a>>,
 }
 
@@ -21,6 +22,7 @@ pub(super) struct Machine<'a> {
 pub(super) struct Group<'a> {
     /// The operation's name; none for the initialisation.
     pub(super) operation: Option<&'a [u8]>,
+    pub(super) parameters: Vec<&'a [u8]>,
     pub(super) hypotheses: Vec<Relation>,
     pub(super) goals: Vec<Relation>,
 }
@@ -59,6 +61,7 @@ pub(super) fn read_machine<'a>(
     differ(&operations)?;
     Ok(Machine {
         name: head.name,
+        variables: head.variables,
         groups,
     })
 }
@@ -102,6 +105,7 @@ fn read_initialisation<'a>(
     all_written(&writes)?;
     Ok(Group {
         operation: None,
+        parameters: Vec::new(alloc),
         hypotheses: Vec::new(alloc),
         goals: goals(alloc, &head.invariant, &writes)?,
     })
@@ -144,6 +148,7 @@ fn read_operation<'a>(
         operation: Some(header.name),
         hypotheses,
         goals: goals(alloc, &head.invariant, &writes)?,
+        parameters: header.parameters,
     })
 }
 

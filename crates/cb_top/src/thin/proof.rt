@@ -1,139 +1,178 @@
-//! Proofs: the name of an obligation and a list of rules in preorder.
+//! Proofs: the name of an obligation and its certificate. Rules with a formula or a term in brackets aren't read here.
+use crate::thin::list::written;
 use crate::thin::reader::Reader;
 use crate::thin::{MOST_ITEMS, Misfit};
 use cb_lex::token::{Keyword, Sign};
+use cb_seq::cert::Cert;
+use cb_seq::rule::{Multiple, Multiples, Rule};
+use cb_seq::sequent::{Group, ObName};
+use sqlite_items::Items;
 use std::alloc::Global;
-
-/// The name of a proof's obligation.
-#[derive(Clone, Copy)]
-pub(super) struct ProofName<'a> {
-    pub(super) machine: &'a [u8],
-    /// None for the initialisation.
-    pub(super) operation: Option<&'a [u8]>,
-    /// The number in its group, from 1.
-    pub(super) number: usize,
-}
 
 /// A proof as it is written.
 #[derive(Drop)]
-pub(super) struct Proof<'a> {
-    pub(super) name: ProofName<'a>,
-    pub(super) rules: Vec<Rule>,
-}
-
-/// A rule. Hypotheses are counted from 1.
-#[derive(Drop)]
-pub(super) enum Rule {
-    Eval,
-    Hyp(usize),
-    Rng,
-    RngL(usize),
-    /// Rows with their multipliers; 0 is the row of the negated goal.
-    Lin(Vec<(usize, i64)>),
-}
-
-impl Rule {
-    fn children(&self) -> usize {
-        match self {
-            Rule::Eval | Rule::Hyp(_) | Rule::Lin(_) => 0,
-            Rule::RngL(_) => 1,
-            Rule::Rng => 2,
-        }
-    }
+pub(super) struct Proof {
+    pub(super) name: ObName,
+    pub(super) cert: Cert,
 }
 
 /// Reads proofs up to the end of the text.
-pub(super) fn read_proofs<'a>(
-    alloc: Global,
-    reader: &mut Reader<'a>,
-) -> Result<Vec<Proof<'a>>, Misfit> {
+pub(super) fn read_proofs(alloc: Global, reader: &mut Reader<'_>) -> Result<Vec<Proof>, Misfit> {
     let mut proofs = Vec::new(alloc);
     for _ in 0..MOST_ITEMS * MOST_ITEMS {
         if reader.is_finished() {
             return Ok(proofs);
         }
         reader.expect_keyword(Keyword::Proof)?;
-        let name = read_name(reader)?;
-        let rules = read_rules(alloc, reader)?;
+        let name = read_name(alloc, reader)?;
+        let cert = read_cert(alloc, reader)?;
         reader.expect_keyword(Keyword::End)?;
-        proofs.push(Proof { name, rules })?;
+        proofs.push(Proof { name, cert })?;
     }
     Err(Misfit::Unfit)
 }
 
-fn read_name<'a>(reader: &mut Reader<'a>) -> Result<ProofName<'a>, Misfit> {
-    let of_operation = match reader.word()? {
-        b"INIT" => false,
-        b"OP" => true,
+fn read_name(alloc: Global, reader: &mut Reader<'_>) -> Result<ObName, Misfit> {
+    let group = match reader.word()? {
+        b"INIT" => Group::Init,
+        b"OP" => Group::Op,
+        b"LIVE" => Group::Live,
         _ => return Err(Misfit::Unfit),
     };
     reader.expect(Sign::Member)?;
-    let machine = reader.word()?;
+    let owner = written(alloc, reader.word()?)?;
     reader.expect(Sign::Member)?;
-    let mut operation = None;
-    if of_operation {
-        operation = Some(reader.word()?);
+    let part = if group == Group::Init || reader.takes_keyword(Keyword::Initialisation) {
+        None
+    } else {
+        Some(written(alloc, reader.word()?)?)
+    };
+    if group != Group::Init {
         reader.expect(Sign::Member)?;
     }
-    let number = reader.place()?;
-    Ok(ProofName {
-        machine,
-        operation,
+    let number = reader.number()?;
+    Ok(ObName {
+        group,
+        owner,
+        part,
         number,
     })
 }
 
-// Reads a certificate. The stack holds how many children are still to come at each node that isn't closed.
-fn read_rules(alloc: Global, reader: &mut Reader<'_>) -> Result<Vec<Rule>, Misfit> {
-    let mut rules = Vec::new(alloc);
-    let mut missing = Vec::new(alloc);
+// Reads a certificate. The stack holds the nodes whose children are still read, and the last node that was read.
+fn read_cert(alloc: Global, reader: &mut Reader<'_>) -> Result<Cert, Misfit> {
+    let mut stack = Vec::new(alloc);
     for _ in 0..MOST_ITEMS * MOST_ITEMS {
-        let rule = read_rule(alloc, reader)?;
-        let children = rule.children();
-        rules.push(rule)?;
-        if children > 0 {
-            reader.expect(Sign::OpenParenthesis)?;
-            missing.push(children)?;
-            continue;
-        }
-        close_nodes(reader, &mut missing)?;
-        if missing.is_empty() {
-            return Ok(rules);
+        stack.push(read_node(alloc, reader)?)?;
+        if !reader.takes(Sign::OpenParenthesis) && is_whole(reader, &mut stack)? {
+            return stack.pop().ok_or(Misfit::Unfit);
         }
     }
     Err(Misfit::Unfit)
 }
 
-// Behind a child: closes the nodes whose last child it is, or reads the comma before the next child.
-fn close_nodes(reader: &mut Reader<'_>, missing: &mut Vec<usize>) -> Result<(), Misfit> {
-    'nodes: while let Some(children) = missing.pop() {
-        if children > 1 {
-            reader.expect(Sign::Comma)?;
-            missing.push(children - 1)?;
-            return Ok(());
+fn read_node(alloc: Global, reader: &mut Reader<'_>) -> Result<Cert, Misfit> {
+    Ok(Cert {
+        rule: read_rule(alloc, reader)?,
+        children: Vec::new(alloc),
+    })
+}
+
+// Behind a node that is closed: closes those whose last child it is. False behind the comma before a next child.
+fn is_whole(reader: &mut Reader<'_>, stack: &mut Vec<Cert>) -> Result<bool, Misfit> {
+    for _ in 0..MOST_ITEMS * MOST_ITEMS {
+        if stack.len() < 2 {
+            return Ok(true);
+        }
+        hang_last(stack)?;
+        if reader.takes(Sign::Comma) {
+            return Ok(false);
         }
         reader.expect(Sign::CloseParenthesis)?;
+    }
+    Err(Misfit::Unfit)
+}
+
+// Makes the last node a child of the one before it.
+fn hang_last(stack: &mut Vec<Cert>) -> Result<(), Misfit> {
+    if let Some(child) = stack.pop()
+        && let Some(parent) = stack.last_mut()
+    {
+        parent.children.push(child)?;
     }
     Ok(())
 }
 
 fn read_rule(alloc: Global, reader: &mut Reader<'_>) -> Result<Rule, Misfit> {
-    match reader.word()? {
-        b"EVAL" => Ok(Rule::Eval),
-        b"HYP" => Ok(Rule::Hyp(reader.place()?)),
-        b"RNG" => Ok(Rule::Rng),
-        b"RNGL" => Ok(Rule::RngL(reader.place()?)),
-        b"LIN" => Ok(Rule::Lin(read_rows(alloc, reader)?)),
-        _ => Err(Misfit::Unfit),
+    let word = reader.word()?;
+    if let Some(rule) = plain_rule(word) {
+        return Ok(rule);
+    }
+    match word {
+        b"LIN" => Ok(Rule::Lin {
+            rows: read_rows(alloc, reader)?,
+        }),
+        b"CONTRA" => Ok(Rule::Contra {
+            hypothesis: reader.number()?,
+            negation: reader.number()?,
+        }),
+        b"EQIN" => Ok(Rule::EqIn {
+            equation: reader.number()?,
+            hypothesis: reader.number()?,
+        }),
+        _ => rule_on(word, reader.number()?).ok_or(Misfit::Unfit),
     }
 }
 
+// A rule without arguments.
+fn plain_rule(word: &[u8]) -> Option<Rule> {
+    Some(match word {
+        b"EVAL" => Rule::Eval,
+        b"REFL" => Rule::Refl,
+        b"ANDR" => Rule::AndR,
+        b"OR1" => Rule::Or1,
+        b"OR2" => Rule::Or2,
+        b"IMPR" => Rule::ImpR,
+        b"NOTR" => Rule::NotR,
+        b"IFFR" => Rule::IffR,
+        b"ALLR" => Rule::AllR,
+        b"BOOLR" => Rule::BoolR,
+        b"EQLE" => Rule::EqLe,
+        b"RNG" => Rule::Rng,
+        b"MEMBER" => Rule::Member,
+        b"SUBSET" => Rule::Subset,
+        b"EXT" => Rule::Ext,
+        _ => return None,
+    })
+}
+
+// A rule whose one argument is a hypothesis.
+fn rule_on(word: &[u8], hypothesis: u64) -> Option<Rule> {
+    Some(match word {
+        b"HYP" => Rule::Hyp { hypothesis },
+        b"EVALNOT" => Rule::EvalNot { hypothesis },
+        b"ANDL" => Rule::AndL { hypothesis },
+        b"ORL" => Rule::OrL { hypothesis },
+        b"IMPL" => Rule::ImpL { hypothesis },
+        b"IFFL" => Rule::IffL { hypothesis },
+        b"NOTL" => Rule::NotL { hypothesis },
+        b"EXL" => Rule::ExL { hypothesis },
+        b"EQ" => Rule::Eq {
+            equation: hypothesis,
+        },
+        b"BOOLL" => Rule::BoolL { hypothesis },
+        b"RNGL" => Rule::RngL { hypothesis },
+        b"MEMBERL" => Rule::MemberL { hypothesis },
+        _ => return None,
+    })
+}
+
 // Reads rows with their multipliers, in brackets.
-fn read_rows(alloc: Global, reader: &mut Reader<'_>) -> Result<Vec<(usize, i64)>, Misfit> {
+fn read_rows(alloc: Global, reader: &mut Reader<'_>) -> Result<Multiples, Misfit> {
     reader.expect(Sign::OpenBracket)?;
-    let mut rows = Vec::new(alloc);
+    let mut rows = Items::new(alloc);
     for _ in 0..MOST_ITEMS {
-        let row = reader.place()?;
+        let row = reader.number()?;
         reader.expect(Sign::Times)?;
         let negative = reader.takes(Sign::Minus);
         let size = reader.takes_number().ok_or(Misfit::Unfit)?;
@@ -142,7 +181,8 @@ fn read_rows(alloc: Global, reader: &mut Reader<'_>) -> Result<Vec<(usize, i64)>
         } else {
             Some(size)
         };
-        rows.push((row, multiplier.ok_or(Misfit::Unfit)?))?;
+        let by = multiplier.ok_or(Misfit::Unfit)?;
+        rows.push(Multiple { row, by })?;
         if !reader.takes(Sign::Comma) {
             reader.expect(Sign::CloseBracket)?;
             return Ok(rows);

@@ -94,10 +94,10 @@ impl<'a> Reader<'a> {
         Some(*number)
     }
 
-    /// The place of a hypothesis, or a number of an obligation.
-    pub(super) fn place(&mut self) -> Result<usize, Misfit> {
+    /// The number of a hypothesis or of an obligation.
+    pub(super) fn number(&mut self) -> Result<u64, Misfit> {
         let number = self.takes_number().ok_or(Misfit::Unfit)?;
-        usize::try_from(number).map_err(|_| Misfit::Unfit)
+        u64::try_from(number).map_err(|_| Misfit::Unfit)
     }
 
     /// Written names with commas.

@@ -1,16 +1,20 @@
 //! The proofs of the obligations, and the verdicts.
-use crate::outcome::Verdict;
+use crate::outcome::Verdict as Whole;
 use crate::thin::Judged;
-use crate::thin::formula::Relation;
-use crate::thin::machine::Machine;
-use crate::thin::proof::{Proof, ProofName, Rule};
-use crate::thin::rule::first_bad;
+use crate::thin::proof::Proof;
+use cb_check::count::count_nodes;
+use cb_check::walk::{CheckFault, check};
+use cb_seq::cert::Cert;
+use cb_seq::sequent::{ObName, Obligation};
+use cb_term::table::SetTable;
+use cb_trace::listing::put_obligation;
+use cb_trace::verdict::{Verdict, open_count, verdict_text};
 use std::alloc::{AllocError, Global};
 
-/// The rules of each obligation's proof, or the printed name of the first proof that fits none.
+/// The certificate of each obligation, or the printed name of the first proof that fits none.
 #[derive(Drop)]
 pub(super) enum Assigned<'a> {
-    Rules(Vec<Option<&'a [Rule]>>),
+    Certs(Vec<Option<&'a Cert>>),
     Unknown(Vec<u8>),
     Double(Vec<u8>),
 }
@@ -18,125 +22,87 @@ pub(super) enum Assigned<'a> {
 /// Gives each obligation its proof.
 pub(super) fn assign_proofs<'a>(
     alloc: Global,
-    machine: &Machine<'_>,
-    proofs: &'a [Proof<'_>],
+    list: &[Obligation],
+    proofs: &'a [Proof],
 ) -> Result<Assigned<'a>, AllocError> {
     let mut all = Vec::new(alloc);
-    for group in &machine.groups {
-        for _ in &group.goals {
-            all.push(None)?;
-        }
+    for _ in list {
+        all.push(None)?;
     }
     for proof in proofs {
-        let found = place_of(machine, &proof.name).and_then(|place| all.get_mut(place));
-        let Some(slot) = found else {
-            return Ok(Assigned::Unknown(printed_name(alloc, &proof.name)?));
+        let place = list
+            .iter()
+            .position(|obligation| is_same(&obligation.name, &proof.name));
+        let Some(slot) = place.and_then(|place| all.get_mut(place)) else {
+            return Ok(Assigned::Unknown(printed(alloc, &proof.name)?));
         };
         if slot.is_some() {
-            return Ok(Assigned::Double(printed_name(alloc, &proof.name)?));
+            return Ok(Assigned::Double(printed(alloc, &proof.name)?));
         }
-        *slot = Some(proof.rules.as_slice());
+        *slot = Some(&proof.cert);
     }
-    Ok(Assigned::Rules(all))
+    Ok(Assigned::Certs(all))
 }
 
-// The place of a proof's obligation among all.
-fn place_of(machine: &Machine<'_>, name: &ProofName<'_>) -> Option<usize> {
-    let mut before = 0usize;
-    for group in &machine.groups {
-        let goals = group.goals.len();
-        if group.operation == name.operation {
-            let place = name.number.checked_sub(1)?;
-            return if name.machine == machine.name && place < goals {
-                before.checked_add(place)
-            } else {
-                None
-            };
-        }
-        before = before.checked_add(goals)?;
-    }
-    None
+fn is_same(one: &ObName, other: &ObName) -> bool {
+    let same_part = match (&one.part, &other.part) {
+        (Some(part), Some(same)) => part.is_same(same),
+        (None, None) => true,
+        _ => false,
+    };
+    one.group == other.group
+        && one.number == other.number
+        && same_part
+        && one.owner.is_same(&other.owner)
+}
+
+fn printed(alloc: Global, name: &ObName) -> Result<Vec<u8>, AllocError> {
+    let mut text = Vec::new(alloc);
+    put_obligation(alloc, &mut text, name)?;
+    Ok(text)
 }
 
 /// Checks each proof and prints the verdicts.
 pub(super) fn print_verdicts(
     alloc: Global,
-    machine: &Machine<'_>,
-    all: &[Option<&[Rule]>],
+    list: Vec<Obligation>,
+    certs: &[Option<&Cert>],
 ) -> Result<Judged, AllocError> {
-    let mut text = Vec::new(alloc);
-    let mut refused = 0usize;
-    let mut rest = all.iter();
-    for group in &machine.groups {
-        for (i, goal) in group.goals.iter().enumerate() {
-            let rules = rest.next().copied().flatten();
-            let name = ProofName {
-                machine: machine.name,
-                operation: group.operation,
-                number: i + 1,
-            };
-            print_name(alloc, &mut text, &name)?;
-            if !print_verdict(alloc, &mut text, &group.hypotheses, goal, rules)? {
-                refused = refused.saturating_add(1);
-            }
-        }
+    let sets = SetTable {
+        sets: Vec::new(alloc),
+    };
+    let mut lines = Vec::new(alloc);
+    let mut rest = certs.iter();
+    for obligation in list {
+        let cert = rest.next().copied().flatten();
+        let verdict = verdict_of(alloc, &sets, &obligation, cert)?;
+        lines.push((obligation.name, verdict))?;
     }
-    let last = if refused == 0 {
-        format!(in alloc; "accepted: {} obligations\n", all.len())?
+    let verdict = if open_count(&lines) == 0 {
+        Whole::AllProved
     } else {
-        format!(in alloc; "refused: {refused} of {} obligations\n", all.len())?
+        Whole::SomeOpen
     };
-    text.extend_from_slice(last.as_bytes())?;
-    let verdict = if refused == 0 {
-        Verdict::AllProved
-    } else {
-        Verdict::SomeOpen
-    };
+    let text = verdict_text(alloc, &lines)?;
     Ok(Judged::Verdicts { verdict, text })
 }
 
-// Prints the verdict of an obligation, and answers whether it is proved.
-fn print_verdict(
+fn verdict_of(
     alloc: Global,
-    text: &mut Vec<u8>,
-    hypotheses: &[Relation],
-    goal: &Relation,
-    rules: Option<&[Rule]>,
-) -> Result<bool, AllocError> {
-    let Some(rules) = rules else {
-        text.extend_from_slice(b" missing\n")?;
-        return Ok(false);
+    sets: &SetTable,
+    obligation: &Obligation,
+    cert: Option<&Cert>,
+) -> Result<Verdict, AllocError> {
+    let Some(cert) = cert else {
+        return Ok(Verdict::Missing);
     };
-    match first_bad(alloc, hypotheses, goal, rules)? {
-        None => {
-            text.extend_from_slice(b" proved\n")?;
-            Ok(true)
-        }
-        Some(node) => {
-            let line = format!(in alloc; " bad {node}\n")?;
-            text.extend_from_slice(line.as_bytes())?;
-            Ok(false)
-        }
+    // A text is too short for so many rules.
+    if count_nodes(cert) >= 4_294_967_296 {
+        return Ok(Verdict::Bad { node: 1 });
     }
-}
-
-// The printed name of an obligation.
-fn printed_name(alloc: Global, name: &ProofName<'_>) -> Result<Vec<u8>, AllocError> {
-    let mut text = Vec::new(alloc);
-    print_name(alloc, &mut text, name)?;
-    Ok(text)
-}
-
-fn print_name(alloc: Global, text: &mut Vec<u8>, name: &ProofName<'_>) -> Result<(), AllocError> {
-    match name.operation {
-        None => text.extend_from_slice(b"INIT:")?,
-        Some(_) => text.extend_from_slice(b"OP:")?,
+    match check(alloc, sets, &obligation.sequent, cert) {
+        Ok(()) => Ok(Verdict::Proved),
+        Err(CheckFault::Bad { node }) => Ok(Verdict::Bad { node }),
+        Err(CheckFault::Memory) => Err(AllocError),
     }
-    text.extend_from_slice(name.machine)?;
-    if let Some(operation) = name.operation {
-        text.push(b':')?;
-        text.extend_from_slice(operation)?;
-    }
-    let number = format!(in alloc; ":{}", name.number)?;
-    text.extend_from_slice(number.as_bytes())
 }

@@ -1,0 +1,2 @@
+mod CheckSound
+mod WalkSteps

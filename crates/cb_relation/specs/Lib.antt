@@ -1,0 +1,4 @@
+pub mod Example
+pub mod Performing
+pub mod Picks
+pub mod Trying
