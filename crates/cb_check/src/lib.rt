@@ -5,5 +5,7 @@ pub mod count;
 pub mod laws;
 pub mod premises;
 #[cfg(test)]
+mod rooms;
+#[cfg(test)]
 mod tests;
 pub mod walk;

@@ -19,26 +19,27 @@ fn n(alloc: Global) -> Result<Name, Memory> {
     Ok(Name { text, number: 0 })
 }
 
-// `k <= n`.
-fn at_least(alloc: Global, k: i64) -> Result<Formula, Memory> {
-    Ok(Formula::rel(RelSign::AtMost, Term::num(k), Term::var(n(alloc)?)))
+// `n <= 9`.
+fn at_most(alloc: Global) -> Result<Formula, Memory> {
+    Ok(Formula::rel(RelSign::AtMost, Term::var(n(alloc)?), Term::num(9)))
 }
 
-// From `1 <= n & 0 <= n` it follows that `0 <= n`.
+// From `n <= 9 & 0 <= n` it follows that `n <= 9`.
 fn sequent(alloc: Global) -> Result<Sequent, Memory> {
     let mut names = Vec::new(alloc);
     names.push((n(alloc)?, Kind::Integer))?;
     let mut hypotheses = Vec::new(alloc);
-    hypotheses.push(Formula::and(alloc, at_least(alloc, 1)?, at_least(alloc, 0)?)?)?;
+    let second = Formula::rel(RelSign::AtMost, Term::num(0), Term::var(n(alloc)?));
+    hypotheses.push(Formula::and(alloc, at_most(alloc)?, second)?)?;
     Ok(Sequent {
         names,
         hypotheses,
-        goal: at_least(alloc, 0)?,
+        goal: at_most(alloc)?,
     })
 }
 
 // The certificate that a postfix form makes: a digit is `HYP` of that hypothesis, `a` is `ANDL 1` of the last one, and `c` is
-// `CUT [0 <= n]` of the last two.
+// `CUT [n <= 9]` of the last two.
 fn cert(alloc: Global, form: &[u8]) -> Result<Cert, Memory> {
     let mut stack = Vec::new(alloc);
     for letter in form {
@@ -63,7 +64,7 @@ fn rule(alloc: Global, letter: u8) -> Result<Rule, Memory> {
     Ok(match letter {
         b'a' => Rule::AndL { hypothesis: 1 },
         b'c' => Rule::Cut {
-            formula: FormulaArgument::Formula(at_least(alloc, 0)?),
+            formula: FormulaArgument::Formula(at_most(alloc)?),
         },
         _ => Rule::Hyp {
             hypothesis: u64::from(letter) & 15,
@@ -92,8 +93,20 @@ fn found(alloc: Global, form: &[u8]) -> Result<u64, Memory> {
 fn first_bad_nodes(rt: HostRuntime) -> Result<(), Fail> {
     let alloc = rt.alloc();
     // in the last two the hypotheses of the first child are gone in the second
-    for (form, node) in [("3a", 0), ("2a", 2), ("3aa", 0), ("3a2c", 0), ("3a3c", 4)] {
+    for (form, node) in [("2a", 0), ("3a", 2), ("2aa", 0), ("2a2c", 0), ("2a3c", 4)] {
         assert_eq!(rt; found(alloc, form.as_bytes())?, node);
     }
+    Ok(())
+}
+
+#[test]
+fn five_hundred_levels(rt: HostRuntime) -> Result<(), Fail> {
+    let alloc = rt.alloc();
+    let mut form = Vec::new(alloc);
+    form.push(b'2')?;
+    for _ in 0..499 {
+        form.push(b'a')?;
+    }
+    assert_eq!(rt; found(alloc, &form)?, 0);
     Ok(())
 }
