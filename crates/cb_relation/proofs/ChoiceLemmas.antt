@@ -11,7 +11,6 @@ use Rattle.cb_term.specs.Holds.{Holds}
 use Rattle.cb_eval.specs.TypedIn.{TypedIn}
 use Rattle.cb_eval.specs.Walks.{count_of, value_number}
 use Rattle.cb_eval.proofs.WalkLemmas.{walk_in, numbered}
-use Rattle.cb_spec.specs.Domains.{In}
 use Rattle.cb_spec.specs.Stores.{Writes, look_of}
 use Rattle.cb_relation.specs.declared.known.Known.{Known}
 use Rattle.cb_relation.specs.Trying.{writes_of, look_in, TypedForEach, SomeMeets, IsChosen}

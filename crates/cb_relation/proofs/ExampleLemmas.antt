@@ -1,5 +1,5 @@
 -- The substitutions of the tests can run from the empty store.
-use Rattle.std.proofs.Common.{◌≡◌, ℤ, pos, ◌≤ℤ◌, ◌-ℤ◌, true, false, inl, if◌then◌else◌, List, [], ◌∷◌, Some, None, unwrap_or, refl, sym, ap, subst, arith}
+use Rattle.std.proofs.Common.{◌≡◌, ℤ, pos, ◌≤ℤ◌, ◌-ℤ◌, true, false, inl, if◌then◌else◌, List, [], ◌∷◌, Some, None, unwrap_or, refl, ap, subst, arith}
 use Rattle.std.proofs.lemmas.Int.{ints}
 use Rattle.cb_term.specs.declared.name.Name.{Name}
 use Rattle.cb_term.specs.declared.kind.Kind.{Kind}
@@ -13,7 +13,7 @@ use Rattle.cb_term.proofs.ValueLemmas.{same_name_tells}
 use Rattle.cb_spec.specs.SubstTree.{SubstTree}
 use Rattle.cb_spec.specs.Stores.{empty}
 use Rattle.cb_spec.specs.Runs.{Live, Fits, writes}
-use Rattle.cb_spec.specs.Forms.{Form, Number}
+use Rattle.cb_spec.specs.Forms.{Number}
 use Rattle.cb_spec.specs.FormValues.{IsOfForm}
 use Rattle.cb_spec.specs.Sound.{Agrees}
 use Rattle.cb_spec.specs.TypedTerms.{Scope}

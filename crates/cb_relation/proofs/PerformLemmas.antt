@@ -9,14 +9,14 @@ use Rattle.cb_term.specs.declared.value.Value.TheVariants as value
 use Rattle.cb_term.specs.Names.{same_name}
 use Rattle.cb_term.specs.Tree.{TermTree, FormulaTree}
 use Rattle.cb_term.specs.Values.{Look, set_at}
-use Rattle.cb_term.specs.Holds.{Holds, IsValue}
+use Rattle.cb_term.specs.Holds.{IsValue}
 use Rattle.cb_term.proofs.ValueLemmas.{same_name_tells}
-use Rattle.cb_spec.specs.SubstTree.{SubstTree, Assign, Together, Choice, AnyOf, SubstTrees, sides_of}
+use Rattle.cb_spec.specs.SubstTree.{SubstTree, Assign, Together, Choice, AnyOf, sides_of}
 use Rattle.cb_spec.specs.declared.subst.Subst.TheDeep.{size-Subst}
 use Rattle.cb_spec.specs.SubstSize.{subst_nodes, substs_nodes}
-use Rattle.cb_spec.specs.Stores.{Writes, found, Puts, SameMap}
+use Rattle.cb_spec.specs.Stores.{Writes, found, Puts}
 use Rattle.cb_spec.specs.Domains.{In}
-use Rattle.cb_spec.specs.Runs.{Apart, Runs, RunsOne, Live, LiveEach, Fits, FitEach}
+use Rattle.cb_spec.specs.Runs.{Runs, RunsOne, Live, LiveEach, Fits, FitEach}
 use Rattle.cb_spec.specs.Forms.{Form, form_of_domain}
 use Rattle.cb_spec.specs.FormValues.{IsOfForm}
 use Rattle.cb_spec.specs.Sound.{Agrees}

@@ -4,7 +4,7 @@ use Rattle.cb_term.specs.declared.name.Name.{Name}
 use Rattle.cb_term.specs.declared.kind.Domain.TheVariants as domain
 use Rattle.cb_term.specs.declared.sign.TermSign.TheVariants.{Range}
 use Rattle.cb_term.specs.declared.sign.RelSign.TheVariants.{Equal, Less, Member, Subset}
-use Rattle.cb_term.specs.Tree.{TermTree, Var, Num, Bin, Rel, And}
+use Rattle.cb_term.specs.Tree.{Var, Num, Bin, Rel, And}
 use Rattle.cb_spec.specs.Example.{letter}
 use Rattle.cb_spec.specs.SubstTree.{SubstTree, Assign, Together, Choice, If, AnyOf, End, More}
 

@@ -9,10 +9,12 @@ mod verdicts;
 
 use crate::outcome::Verdict;
 use crate::thin::list::obligations;
-use crate::thin::machine::read_machine;
+use crate::thin::machine::machine_of;
 use crate::thin::proof::read_proofs;
 use crate::thin::reader::Reader;
 use crate::thin::verdicts::{Assigned, assign_proofs, print_verdicts};
+use cb_amn_parse::reading::machine;
+use cb_grammar::SyntaxFault;
 use cb_lex::token::Token;
 use std::alloc::{AllocError, AllocFailed, Global};
 
@@ -38,6 +40,16 @@ impl<T: Drop> From<AllocFailed<T>> for Misfit {
     }
 }
 
+// Where a whole text is spelled, so is its first machine.
+impl From<SyntaxFault> for Misfit {
+    fn from(fault: SyntaxFault) -> Misfit {
+        match fault {
+            SyntaxFault::Memory => Misfit::Memory,
+            _ => Misfit::Unfit,
+        }
+    }
+}
+
 /// What the tokens of a text come to.
 #[derive(Drop)]
 pub(crate) enum Judged {
@@ -51,7 +63,7 @@ pub(crate) enum Judged {
     DoubleProof(Vec<u8>),
 }
 
-/// Reads a machine with its proofs, and checks them.
+/// Judges a machine with its proofs.
 pub(crate) fn judge(alloc: Global, tokens: &[Token]) -> Result<Judged, AllocError> {
     match read_and_check(alloc, tokens) {
         Ok(judged) => Ok(judged),
@@ -61,8 +73,12 @@ pub(crate) fn judge(alloc: Global, tokens: &[Token]) -> Result<Judged, AllocErro
 }
 
 fn read_and_check(alloc: Global, tokens: &[Token]) -> Result<Judged, Misfit> {
-    let mut reader = Reader::new(tokens);
-    let machine = read_machine(alloc, &mut reader)?;
+    if tokens.is_empty() {
+        return Err(Misfit::Unfit);
+    }
+    let (raw, end) = machine(alloc, tokens, 0)?;
+    let machine = machine_of(alloc, &raw)?;
+    let mut reader = Reader::new(tokens.get(end..).unwrap_or(&[]));
     let proofs = read_proofs(alloc, &mut reader)?;
     let list = obligations(alloc, &machine)?;
     match assign_proofs(alloc, &list, &proofs)? {

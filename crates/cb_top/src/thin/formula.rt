@@ -1,7 +1,7 @@
 //! Sums, relations between them, and conjunctions of relations.
-use crate::thin::reader::Reader;
 use crate::thin::{MOST_ITEMS, Misfit};
-use cb_lex::token::Sign;
+use cb_lex::raw::sign::{RawOperator, RawRelation};
+use cb_lex::raw::term::{RawFormula, RawFormulaNode, RawTerm, RawTermNode};
 use std::alloc::Global;
 
 /// An operand of a sum. Variables and opened parameters are known by their places.
@@ -111,87 +111,112 @@ pub(super) fn place_of(names: &[&[u8]], name: &[u8]) -> Option<usize> {
     names.iter().position(|other| *other == name)
 }
 
-/// Reads a sum of names and numbers. The numbers are below 2 ^ 31, so that no value of a sum leaves its bounds.
-pub(super) fn read_sum(
-    alloc: Global,
-    reader: &mut Reader<'_>,
-    scope: &Scope<'_>,
-) -> Result<Sum, Misfit> {
+/// The operands of a sum of names and numbers, which groups to the left. The numbers are below 2 ^ 31, so that no value of a sum
+/// leaves its bounds.
+pub(super) fn sum_of(alloc: Global, term: &RawTerm, scope: &Scope<'_>) -> Result<Sum, Misfit> {
     let mut atoms = Vec::new(alloc);
+    let mut rest = term;
     for _ in 0..MOST_ITEMS {
-        let atom = match reader.takes_number() {
-            Some(number) if number <= i64::from(i32::MAX) => Atom::Number(number),
-            Some(_) => return Err(Misfit::Unfit),
-            None => scope.atom(reader.word()?).ok_or(Misfit::Unfit)?,
-        };
-        atoms.push(atom)?;
-        if !reader.takes(Sign::Plus) {
+        let RawTermNode::Binary {
+            operator: RawOperator::Plus,
+            place: _,
+            left,
+            right,
+        } = &rest.node
+        else {
+            atoms.push(atom_of(rest, scope)?)?;
+            atoms.reverse();
             return Ok(atoms);
-        }
+        };
+        atoms.push(atom_of(right, scope)?)?;
+        rest = left;
     }
     Err(Misfit::Unfit)
 }
 
-// Reads a relation. Those with `>` and `>=` are turned round.
-fn read_relation(
-    alloc: Global,
-    reader: &mut Reader<'_>,
-    scope: &Scope<'_>,
-) -> Result<Relation, Misfit> {
-    let first = read_sum(alloc, reader, scope)?;
-    if reader.takes(Sign::Member) {
-        let low = read_sum(alloc, reader, scope)?;
-        reader.expect(Sign::UpTo)?;
-        let high = read_sum(alloc, reader, scope)?;
-        return Ok(Relation::Member {
-            term: first,
-            low,
-            high,
-        });
+fn atom_of(term: &RawTerm, scope: &Scope<'_>) -> Result<Atom, Misfit> {
+    match &term.node {
+        RawTermNode::Number { value, place: _ } if *value <= i64::from(i32::MAX) => {
+            Ok(Atom::Number(*value))
+        }
+        RawTermNode::Name(name) => scope.atom(name.text.as_slice()).ok_or(Misfit::Unfit),
+        _ => Err(Misfit::Unfit),
     }
-    let (comparison, turned) = read_comparison(reader)?;
-    let second = read_sum(alloc, reader, scope)?;
-    let (left, right) = if turned {
-        (second, first)
-    } else {
-        (first, second)
-    };
-    Ok(Relation::Compare {
-        comparison,
+}
+
+// A relation. Those with `>` and `>=` are turned round.
+fn relation_of(alloc: Global, formula: &RawFormula, scope: &Scope<'_>) -> Result<Relation, Misfit> {
+    let RawFormulaNode::Relation {
+        relation,
+        place: _,
         left,
         right,
+    } = &formula.node
+    else {
+        return Err(Misfit::Unfit);
+    };
+    if *relation == RawRelation::Member {
+        return member_of(alloc, left, right, scope);
+    }
+    let (comparison, turned) = comparison_of(*relation)?;
+    let (left, right) = if turned { (right, left) } else { (left, right) };
+    Ok(Relation::Compare {
+        comparison,
+        left: sum_of(alloc, left, scope)?,
+        right: sum_of(alloc, right, scope)?,
     })
 }
 
-// Reads a sign of comparison, and says whether its sides are to be turned round.
-fn read_comparison(reader: &mut Reader<'_>) -> Result<(Comparison, bool), Misfit> {
-    let signs = [
-        (Sign::Equal, Comparison::Equal, false),
-        (Sign::Less, Comparison::Less, false),
-        (Sign::AtMost, Comparison::AtMost, false),
-        (Sign::Greater, Comparison::Less, true),
-        (Sign::AtLeast, Comparison::AtMost, true),
-    ];
-    for (sign, comparison, turned) in signs {
-        if reader.takes(sign) {
-            return Ok((comparison, turned));
-        }
+// `term : low..high`.
+fn member_of(
+    alloc: Global,
+    term: &RawTerm,
+    range: &RawTerm,
+    scope: &Scope<'_>,
+) -> Result<Relation, Misfit> {
+    match &range.node {
+        RawTermNode::Binary {
+            operator: RawOperator::UpTo,
+            place: _,
+            left,
+            right,
+        } => Ok(Relation::Member {
+            term: sum_of(alloc, term, scope)?,
+            low: sum_of(alloc, left, scope)?,
+            high: sum_of(alloc, right, scope)?,
+        }),
+        _ => Err(Misfit::Unfit),
     }
-    Err(Misfit::Unfit)
 }
 
-/// Reads relations with `&`.
-pub(super) fn read_conjunction(
+// The comparison of a sign, and whether its sides are to be turned round.
+fn comparison_of(relation: RawRelation) -> Result<(Comparison, bool), Misfit> {
+    match relation {
+        RawRelation::Equal => Ok((Comparison::Equal, false)),
+        RawRelation::Less => Ok((Comparison::Less, false)),
+        RawRelation::AtMost => Ok((Comparison::AtMost, false)),
+        RawRelation::Greater => Ok((Comparison::Less, true)),
+        RawRelation::AtLeast => Ok((Comparison::AtMost, true)),
+        _ => Err(Misfit::Unfit),
+    }
+}
+
+/// The relations of a conjunction, which groups to the left.
+pub(super) fn conjuncts_of(
     alloc: Global,
-    reader: &mut Reader<'_>,
+    formula: &RawFormula,
     scope: &Scope<'_>,
 ) -> Result<Vec<Relation>, Misfit> {
     let mut relations = Vec::new(alloc);
+    let mut rest = formula;
     for _ in 0..MOST_ITEMS {
-        relations.push(read_relation(alloc, reader, scope)?)?;
-        if !reader.takes(Sign::And) {
+        let RawFormulaNode::And(left, right) = &rest.node else {
+            relations.push(relation_of(alloc, rest, scope)?)?;
+            relations.reverse();
             return Ok(relations);
-        }
+        };
+        relations.push(relation_of(alloc, right, scope)?)?;
+        rest = left;
     }
     Err(Misfit::Unfit)
 }

@@ -1,10 +1,11 @@
-//! A machine, read into the obligations of its initialisation and of its operations.
+//! A machine, made into the obligations of its initialisation and of its operations.
 use crate::thin::formula::{
-    Atom, Relation, Scope, Sum, gives_range, place_of, read_conjunction, read_sum,
+    Atom, Relation, Scope, Sum, conjuncts_of, gives_range, place_of, sum_of,
 };
-use crate::thin::reader::Reader;
 use crate::thin::{MOST_ITEMS, Misfit};
-use cb_lex::token::{Keyword, Sign};
+use cb_lex::raw::name::RawNames;
+use cb_lex::raw::subst::{RawSubst, RawSubstNode};
+use cb_lex::raw::text::{RawMachine, RawOperation};
 use std::alloc::Global;
 
 // The most parameters and results of an operation together.
@@ -35,28 +36,16 @@ struct Head<'a> {
     invariant: Vec<Relation>,
 }
 
-/// Reads a machine.
-pub(super) fn read_machine<'a>(
-    alloc: Global,
-    reader: &mut Reader<'a>,
-) -> Result<Machine<'a>, Misfit> {
-    let head = read_head(alloc, reader)?;
+/// Makes the obligations of a machine.
+pub(super) fn machine_of(alloc: Global, raw: &RawMachine) -> Result<Machine<'_>, Misfit> {
+    let head = head_of(alloc, raw)?;
+    let state = raw.state.as_ref().ok_or(Misfit::Unfit)?;
     let mut groups = Vec::new(alloc);
-    groups.push(read_initialisation(alloc, reader, &head)?)?;
-    if reader.takes_keyword(Keyword::Operations) {
-        for _ in 0..MOST_ITEMS {
-            groups.push(read_operation(alloc, reader, &head)?)?;
-            if !reader.takes(Sign::Semicolon) {
-                break;
-            }
-        }
-    }
-    reader.expect_keyword(Keyword::End)?;
+    groups.push(initialisation_of(alloc, &state.initialisation, &head)?)?;
     let mut operations = Vec::new(alloc);
-    for group in &groups {
-        if let Some(name) = group.operation {
-            operations.push(name)?;
-        }
+    for operation in raw.operations.as_slice() {
+        operations.push(operation.name.text.as_slice())?;
+        groups.push(operation_of(alloc, operation, &head)?)?;
     }
     differ(&operations)?;
     Ok(Machine {
@@ -66,17 +55,20 @@ pub(super) fn read_machine<'a>(
     })
 }
 
-fn read_head<'a>(alloc: Global, reader: &mut Reader<'a>) -> Result<Head<'a>, Misfit> {
-    reader.expect_keyword(Keyword::Machine)?;
-    let name = reader.word()?;
-    reader.expect_keyword(Keyword::Variables)?;
-    let variables = reader.names(alloc)?;
-    reader.expect_keyword(Keyword::Invariant)?;
+// What a machine without sets and constants has before its operations.
+fn head_of(alloc: Global, raw: &RawMachine) -> Result<Head<'_>, Misfit> {
+    let is_plain = raw.sees.is_empty() && raw.sets.is_empty() && raw.constants.is_empty();
+    if !is_plain || raw.operations.len() > MOST_ITEMS {
+        return Err(Misfit::Unfit);
+    }
+    let state = raw.state.as_ref().ok_or(Misfit::Unfit)?;
+    let variables = texts(alloc, &state.variables)?;
     let scope = Scope {
         variables: &variables,
         parameters: &[],
     };
-    let invariant = read_conjunction(alloc, reader, &scope)?;
+    let invariant = conjuncts_of(alloc, &state.invariant, &scope)?;
+    let name = raw.name.text.as_slice();
     let mut names = variables.clone()?;
     names.push(name)?;
     differ(&names)?;
@@ -90,18 +82,28 @@ fn read_head<'a>(alloc: Global, reader: &mut Reader<'a>) -> Result<Head<'a>, Mis
     })
 }
 
+fn texts(alloc: Global, names: &RawNames) -> Result<Vec<&[u8]>, Misfit> {
+    let mut texts = Vec::new(alloc);
+    for name in names.as_slice() {
+        texts.push(name.text.as_slice())?;
+    }
+    if texts.len() > MOST_ITEMS {
+        return Err(Misfit::Unfit);
+    }
+    Ok(texts)
+}
+
 // The terms of an initialisation have no names.
-fn read_initialisation<'a>(
+fn initialisation_of<'a>(
     alloc: Global,
-    reader: &mut Reader<'a>,
+    raw: &RawSubst,
     head: &Head<'a>,
 ) -> Result<Group<'a>, Misfit> {
-    reader.expect_keyword(Keyword::Initialisation)?;
     let scope = Scope {
         variables: &[],
         parameters: &[],
     };
-    let writes = read_writes(alloc, reader, &scope, &head.variables)?;
+    let writes = writes_of(alloc, raw, &scope, &head.variables)?;
     all_written(&writes)?;
     Ok(Group {
         operation: None,
@@ -111,86 +113,60 @@ fn read_initialisation<'a>(
     })
 }
 
-fn read_operation<'a>(
+fn operation_of<'a>(
     alloc: Global,
-    reader: &mut Reader<'a>,
+    raw: &'a RawOperation,
     head: &Head<'a>,
 ) -> Result<Group<'a>, Misfit> {
-    let header = read_header(alloc, reader)?;
+    let results = texts(alloc, &raw.results)?;
+    let parameters = texts(alloc, &raw.parameters)?;
+    if results.len().saturating_add(parameters.len()) > MOST_VALUES {
+        return Err(Misfit::Unfit);
+    }
     let mut targets = head.variables.clone()?;
-    targets.extend_from_slice(&header.results)?;
+    targets.extend_from_slice(&results)?;
     let mut names = targets.clone()?;
-    names.extend_from_slice(&header.parameters)?;
+    names.extend_from_slice(&parameters)?;
     names.push(head.name)?;
     differ(&names)?;
     let scope = Scope {
         variables: &head.variables,
-        parameters: &header.parameters,
+        parameters: &parameters,
     };
-    let guarded = reader.takes_keyword(Keyword::Pre);
-    let mut hypotheses = head.invariant.clone()?;
-    if guarded {
-        let mut precondition = read_conjunction(alloc, reader, &scope)?;
-        for place in 0..header.parameters.len() {
-            gives_range(&precondition, Atom::Parameter(place))?;
-        }
-        hypotheses.append(&mut precondition)?;
-        reader.expect_keyword(Keyword::Then)?;
-    } else if !header.parameters.is_empty() {
-        return Err(Misfit::Unfit);
-    }
-    let writes = read_writes(alloc, reader, &scope, &targets)?;
+    let hypotheses = hypotheses_of(alloc, raw, head, &scope)?;
+    let writes = writes_of(alloc, &raw.body, &scope, &targets)?;
     all_written(writes.get(head.variables.len()..).unwrap_or(&[]))?;
-    if guarded {
-        reader.expect_keyword(Keyword::End)?;
-    }
     Ok(Group {
-        operation: Some(header.name),
+        operation: Some(raw.name.text.as_slice()),
         hypotheses,
         goals: goals(alloc, &head.invariant, &writes)?,
-        parameters: header.parameters,
-    })
-}
-
-// The names before the body of an operation.
-#[derive(Drop)]
-struct Header<'a> {
-    results: Vec<&'a [u8]>,
-    name: &'a [u8],
-    parameters: Vec<&'a [u8]>,
-}
-
-fn read_header<'a>(alloc: Global, reader: &mut Reader<'a>) -> Result<Header<'a>, Misfit> {
-    let mut results = reader.names(alloc)?;
-    let name = if reader.takes(Sign::Returns) {
-        reader.word()?
-    } else {
-        let name = results.pop().ok_or(Misfit::Unfit)?;
-        if !results.is_empty() {
-            return Err(Misfit::Unfit);
-        }
-        name
-    };
-    let mut parameters = Vec::new(alloc);
-    if reader.takes(Sign::OpenParenthesis) {
-        parameters = reader.names(alloc)?;
-        reader.expect(Sign::CloseParenthesis)?;
-    }
-    if results.len().saturating_add(parameters.len()) > MOST_VALUES {
-        return Err(Misfit::Unfit);
-    }
-    reader.expect(Sign::Equal)?;
-    Ok(Header {
-        results,
-        name,
         parameters,
     })
 }
 
-// Reads what is written to each target at once; none where nothing is.
-fn read_writes(
+// The conjuncts of the invariant, and those of the precondition, which gives each parameter a range.
+fn hypotheses_of(
     alloc: Global,
-    reader: &mut Reader<'_>,
+    raw: &RawOperation,
+    head: &Head<'_>,
+    scope: &Scope<'_>,
+) -> Result<Vec<Relation>, Misfit> {
+    let mut hypotheses = head.invariant.clone()?;
+    let mut asked = match &raw.precondition {
+        Some(precondition) => conjuncts_of(alloc, precondition, scope)?,
+        None => Vec::new(alloc),
+    };
+    for place in 0..scope.parameters.len() {
+        gives_range(&asked, Atom::Parameter(place))?;
+    }
+    hypotheses.append(&mut asked)?;
+    Ok(hypotheses)
+}
+
+// What is written to each target at once; none where nothing is. A chain of `||` groups to the left.
+fn writes_of(
+    alloc: Global,
+    raw: &RawSubst,
     scope: &Scope<'_>,
     targets: &[&[u8]],
 ) -> Result<Vec<Option<Sum>>, Misfit> {
@@ -198,19 +174,37 @@ fn read_writes(
     for _ in targets {
         writes.push(None)?;
     }
-    if reader.takes_keyword(Keyword::Skip) {
-        return Ok(writes);
-    }
+    let mut rest = raw;
     for _ in 0..MOST_ITEMS {
-        let place = place_of(targets, reader.word()?).ok_or(Misfit::Unfit)?;
-        reader.expect(Sign::Assign)?;
-        let value = read_sum(alloc, reader, scope)?;
-        write_once(&mut writes, place, value)?;
-        if !reader.takes(Sign::Parallel) {
-            return Ok(writes);
+        match &rest.node {
+            RawSubstNode::Parallel(left, right) => {
+                write(alloc, right, scope, targets, &mut writes)?;
+                rest = left;
+            }
+            RawSubstNode::Skip => return Ok(writes),
+            _ => {
+                write(alloc, rest, scope, targets, &mut writes)?;
+                return Ok(writes);
+            }
         }
     }
     Err(Misfit::Unfit)
+}
+
+// One assignment.
+fn write(
+    alloc: Global,
+    raw: &RawSubst,
+    scope: &Scope<'_>,
+    targets: &[&[u8]],
+    writes: &mut [Option<Sum>],
+) -> Result<(), Misfit> {
+    let RawSubstNode::Assign { target, term } = &raw.node else {
+        return Err(Misfit::Unfit);
+    };
+    let place = place_of(targets, target.text.as_slice()).ok_or(Misfit::Unfit)?;
+    let value = sum_of(alloc, term, scope)?;
+    write_once(writes, place, value)
 }
 
 fn write_once(writes: &mut [Option<Sum>], place: usize, value: Sum) -> Result<(), Misfit> {

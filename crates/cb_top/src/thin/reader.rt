@@ -1,7 +1,6 @@
-//! Single tokens, names and numbers.
-use crate::thin::{MOST_ITEMS, Misfit};
+//! Single tokens of proofs, names and numbers.
+use crate::thin::Misfit;
 use cb_lex::token::{Keyword, Sign, Sort, Token};
-use std::alloc::Global;
 
 /// The tokens that aren't read yet.
 #[derive(Drop)]
@@ -98,17 +97,5 @@ impl<'a> Reader<'a> {
     pub(super) fn number(&mut self) -> Result<u64, Misfit> {
         let number = self.takes_number().ok_or(Misfit::Unfit)?;
         u64::try_from(number).map_err(|_| Misfit::Unfit)
-    }
-
-    /// Written names with commas.
-    pub(super) fn names(&mut self, alloc: Global) -> Result<Vec<&'a [u8]>, Misfit> {
-        let mut names = Vec::new(alloc);
-        for _ in 0..MOST_ITEMS {
-            names.push(self.word()?)?;
-            if !self.takes(Sign::Comma) {
-                return Ok(names);
-            }
-        }
-        Err(Misfit::Unfit)
     }
 }

@@ -1,4 +1,4 @@
-use Rattle.std.proofs.Common.{ℕ, arith, ◌<◌, refl, subst, sym}
+use Rattle.std.proofs.Common.{arith, ◌<◌, refl, subst}
 use Rattle.cb_term.specs.Table.{sizes_of}
 use Rattle.cb_eval.specs.Walks.{count_of}
 use Rattle.cb_relation.specs.Trying.{look_in}

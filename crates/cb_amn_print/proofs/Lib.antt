@@ -1,0 +1,12 @@
+pub mod Fronts
+pub mod Scripts
+pub mod Pieces
+pub mod Lines
+pub mod Spelled
+pub mod Premises
+pub mod Heard
+pub mod MachinePieces
+pub mod WholePieces
+pub mod MachineSpelled
+pub mod WholeSpelled
+pub mod PrintedBack
