@@ -1,13 +1,18 @@
 -- Counts of branches, and branches after others.
-use Rattle.std.proofs.Common.{◌≡◌, ◌≤◌, ℕ, zero, suc, ◌+◌, ◌*◌, min, List, [], ◌∷◌, ◌++◌, map, flat_map, refl, sym, ap, ap₂, ◌∙◌, append_assoc, arith, ◌⊎◌, inl, inr}
+use Rattle.std.proofs.Common.{◌≡◌, ◌≤◌, ℕ, zero, suc, ◌+◌, ◌*◌, min, List, [], ◌∷◌, ◌++◌, map, flat_map, refl, sym, ap, ap₂, ◌∙◌, append_assoc, length, drop, arith, ◌⊎◌, inl, inr}
 use Rattle.std.proofs.Math.Nat.{mul-le-mul}
 use Rattle.std.proofs.lemmas.Bool.{cases_lt}
 use Rattle.std.proofs.lemmas.List.{append-nil}
 use Rattle.cb_term.specs.declared.name.Name.{Name}
 use Rattle.cb_term.specs.declared.kind.Kind.{Kind}
-use Rattle.cb_term.specs.Tree.{TermTree, FormulaTree}
-use Rattle.cb_obligations.specs.Branches.{Item, Bind, Guard, Assigned, Branch, binds, guarded, bound, joined}
-use Rattle.cb_wp.specs.Parts.{after}
+use Rattle.cb_term.specs.declared.kind.Domain.{Domain}
+use Rattle.cb_term.specs.Tree.{TermTree, FormulaTree, Not}
+use Rattle.cb_spec.specs.Domains.{kind_of}
+use Rattle.cb_spec.specs.SubstTree.{SubstTree, Together, Choice, If, AnyOf, SubstTrees, End, More, sides_of}
+use Rattle.cb_obligations.specs.Branches.{Item, Bind, Guard, Assigned, Branch, numbered, opened, binds, guarded, bound, joined, branches_from, branches_of_each}
+use Rattle.cb_wp.specs.Parts as begun
+use Rattle.cb_wp.specs.Parts.{begun_of, after}
+use Rattle.cb_wp.specs.declared.branches.Begun.{Begun}
 
 -- where one factor is at least 257, the product is 0 or at least 257
 large : (a b : ℕ) → 257 ≤ a → 1 ≤ b → min (min a 257 * min b 257) 257 ≡ min (a * b) 257
@@ -81,30 +86,7 @@ name_behind : (c : ℕ × Branch) (n : ℕ) (x : Name) (kind : Kind) (p : Formul
 name_behind c n x kind p e qs =
     put_behind c n (Bind x kind ∷ Guard p ∷ []) (bound x kind p) (λ q. omega (arith, e)) (λ q. refl) (λ q. refl) qs
 
--- ---- one goal each
-
-pub skip_follows : (c : ℕ × Branch) → c ∷ [] ≡ follow c (record { items = []; writes = [] } ∷ [])
-skip_follows c =
-    let e : c ≡ (c.0 + 0, record { items = c.1.items ++ []; writes = c.1.writes ++ [] }) =
-    alike c.0 (c.0 + 0) c.1.items (c.1.items ++ []) c.1.writes (c.1.writes ++ []) (omega arith) (sym (append-nil c.1.items)) (sym (append-nil c.1.writes)) in
-    ap (λ d. d ∷ []) e
-
-pub write_follows : (c d : ℕ × Branch) (w : Name × TermTree) → d ≡ (c.0, joined c.1 (record { items = []; writes = w ∷ [] })) →
-    d ∷ [] ≡ follow c (record { items = []; writes = w ∷ [] } ∷ [])
-write_follows c d w e =
-    let f : (c.0, joined c.1 (record { items = []; writes = w ∷ [] })) ≡ (c.0 + 0, joined c.1 (record { items = []; writes = w ∷ [] })) =
-    ap (λ (n : ℕ). (n, joined c.1 (record { items = []; writes = w ∷ [] }))) (omega arith) in
-    ap (λ x. x ∷ []) (e ∙ f)
-
-pub guarded_follow : (c d : ℕ × Branch) (p : FormulaTree) (f : ℕ → List Branch) → d ≡ (c.0, joined c.1 (record { items = Guard p ∷ []; writes = [] })) →
-    after f d ≡ follow c (map (guarded p) (f c.0))
-guarded_follow c d p f e = ap (after f) e ∙ guard_behind c p (f c.0)
-
-pub bound_follow : (c d : ℕ × Branch) (n : ℕ) (x : Name) (kind : Kind) (p : FormulaTree) (f : ℕ → List Branch) → n ≡ c.0 + 1 →
-    d ≡ (n, joined c.1 (record { items = Bind x kind ∷ Guard p ∷ []; writes = [] })) → after f d ≡ follow c (map (bound x kind p) (f n))
-bound_follow c d n x kind p f l e = ap (after f) e ∙ name_behind c n x kind p l (f n)
-
-pub both_follow : (c : ℕ × Branch) (qs rs : List Branch) → follow c (qs ++ rs) ≡ follow c qs ++ follow c rs
+both_follow : (c : ℕ × Branch) (qs rs : List Branch) → follow c (qs ++ rs) ≡ follow c qs ++ follow c rs
 both_follow c qs rs = map_append (λ (q : Branch). (c.0 + binds q.items, joined c.1 q)) qs rs
 
 followed_twice : (c : ℕ × Branch) (q : Branch) (rs : List Branch) → follow (c.0 + binds q.items, joined c.1 q) rs ≡ follow c (map (joined q) rs)
@@ -117,9 +99,84 @@ followed_twice c q (r ∷ rs) =
     (followed_twice c q rs)
 
 -- each branch of the second side after each of the first
-pub sides_follow : (c : ℕ × Branch) (f : ℕ → List Branch) (qs : List Branch) →
+sides_follow : (c : ℕ × Branch) (f : ℕ → List Branch) (qs : List Branch) →
     flat_map (after f) (follow c qs) ≡ follow c (flat_map (λ (q : Branch). map (joined q) (f (c.0 + binds q.items))) qs)
 sides_follow c f [] = refl
 sides_follow c f (q ∷ qs) =
     ap₂ (λ xs ys. xs ++ ys) (followed_twice c q (f (c.0 + binds q.items))) (sides_follow c f qs)
     ∙ sym (both_follow c (map (joined q) (f (c.0 + binds q.items))) (flat_map (λ (q : Branch). map (joined q) (f (c.0 + binds q.items))) qs))
+
+-- ---- the branches by cases
+
+pub of_together : (scope : List Name) (s a b : SubstTree) (c : ℕ × Branch) (xs zs : List (ℕ × Branch)) → s ≡ Together a b →
+    xs ≡ after (λ k. branches_from k scope a) c → zs ≡ flat_map (after (λ k. branches_from k scope b)) xs → zs ≡ after (λ k. branches_from k scope s) c
+of_together scope s a b c xs zs is first all =
+    all ∙ ap (flat_map (after (λ k. branches_from k scope b))) first ∙ sides_follow c (λ k. branches_from k scope b) (branches_from c.0 scope a)
+    ∙ ap (λ s. after (λ k. branches_from k scope s) c) (sym is)
+
+pub of_choice : (scope : List Name) (s : SubstTree) (ss : SubstTrees) (c : ℕ × Branch) (zs : List (ℕ × Branch)) → s ≡ Choice ss →
+    zs ≡ after (λ k. branches_of_each k scope ss) c → zs ≡ after (λ k. branches_from k scope s) c
+of_choice scope s ss c zs is all = all ∙ ap (λ s. after (λ k. branches_from k scope s) c) (sym is)
+
+-- one side of a choice more
+of_sides : (scope : List Name) (s : SubstTree) (ss : SubstTrees) (c : ℕ × Branch) →
+    after (λ k. branches_of_each k scope (More s ss)) c ≡ after (λ k. branches_from k scope s) c ++ after (λ k. branches_of_each k scope ss) c
+of_sides scope s ss c = both_follow c (branches_from c.0 scope s) (branches_of_each c.0 scope ss)
+
+pub of_if : (scope : List Name) (s a b : SubstTree) (p : FormulaTree) (c d e : ℕ × Branch) (xs ys zs : List (ℕ × Branch)) → s ≡ If p a b →
+    d ≡ begun.guarded c (opened scope p) → e ≡ begun.guarded c (Not (opened scope p)) →
+    xs ≡ after (λ k. branches_from k scope a) d → ys ≡ after (λ k. branches_from k scope b) e → zs ≡ xs ++ ys → zs ≡ after (λ k. branches_from k scope s) c
+of_if scope s a b p c d e xs ys zs is is_d is_e first second all =
+    let f : ℕ → List Branch = λ k. branches_from k scope a in
+    let g : ℕ → List Branch = λ k. branches_from k scope b in
+    all
+    ∙ ap₂ (λ us vs. us ++ vs)
+    (first ∙ ap (after f) is_d ∙ guard_behind c (opened scope p) (f c.0))
+    (second ∙ ap (after g) is_e ∙ guard_behind c (Not (opened scope p)) (g c.0))
+    ∙ sym (both_follow c (map (guarded (opened scope p)) (f c.0)) (map (guarded (Not (opened scope p))) (g c.0)))
+    ∙ ap (λ s. after (λ k. branches_from k scope s) c) (sym is)
+
+pub of_any : (scope inner : List Name) (s a : SubstTree) (z : Name) (domain : Domain) (p : FormulaTree) (n : ℕ) (c d : ℕ × Branch) (zs : List (ℕ × Branch)) →
+    s ≡ AnyOf z domain p a → n ≡ c.0 + 1 → inner ≡ numbered z n ∷ scope → d ≡ begun.bound c n z (kind_of domain) (opened inner p) →
+    zs ≡ after (λ k. branches_from k inner a) d → zs ≡ after (λ k. branches_from k scope s) c
+of_any scope inner s a z domain p n c d zs is is_n is_inner is_d all =
+    let here : ℕ → List Name = λ m. numbered z m ∷ scope in
+    let f : List Name → ℕ → List Branch = λ xs k. branches_from k xs a in
+    all
+    ∙ ap (after (f inner)) is_d
+    ∙ ap (λ xs. after (f xs) (begun.bound c n z (kind_of domain) (opened xs p))) is_inner
+    ∙ name_behind c n (numbered z n) (kind_of domain) (opened (here n) p) is_n (f (here n) n)
+    ∙ ap (λ m. follow c (map (bound (numbered z m) (kind_of domain) (opened (here m) p)) (f (here m) m))) is_n
+    ∙ ap (λ s. after (λ k. branches_from k scope s) c) (sym is)
+
+pub of_side : (scope : List Name) (s : SubstTree) (ss rest : SubstTrees) (c : ℕ × Branch) (all more new whole : List (ℕ × Branch)) → ss ≡ More s rest →
+    more ≡ after (λ k. branches_from k scope s) c → new ≡ all ++ more → all ++ after (λ k. branches_of_each k scope ss) c ≡ whole →
+    new ++ after (λ k. branches_of_each k scope rest) c ≡ whole
+of_side scope s ss rest c all more new whole is is_more is_new so_far =
+    let left : ℕ × Branch → List (ℕ × Branch) = after (λ k. branches_of_each k scope rest) in
+    ap (λ xs. xs ++ left c) is_new ∙ append_assoc all more (left c)
+    ∙ ap (λ xs. all ++ xs) (ap (λ xs. xs ++ left c) is_more ∙ sym (of_sides scope s rest c) ∙ ap (λ ss. after (λ k. branches_of_each k scope ss) c) (sym is))
+    ∙ so_far
+
+pub of_first : (each : ℕ × Branch → List (ℕ × Branch)) (x : ℕ × Branch) (left rest all more new whole : List (ℕ × Branch)) → left ≡ x ∷ rest → more ≡ each x →
+    new ≡ all ++ more → all ++ flat_map each left ≡ whole → new ++ flat_map each rest ≡ whole
+of_first each x left rest all more new whole is is_more is_new so_far =
+    ap (λ xs. xs ++ flat_map each rest) is_new ∙ append_assoc all more (flat_map each rest)
+    ∙ ap (λ xs. all ++ xs) (ap (λ xs. xs ++ flat_map each rest) is_more ∙ ap (flat_map each) (sym is))
+    ∙ so_far
+
+pub of_none : (each : ℕ × Branch → List (ℕ × Branch)) (left all whole : List (ℕ × Branch)) → left ≡ [] → all ++ flat_map each left ≡ whole → all ≡ whole
+of_none each left all whole is so_far = sym (append-nil all) ∙ ap (λ xs. all ++ flat_map each xs) (sym is) ∙ so_far
+
+pub all_appended : (new all more : List Begun) → new ≡ all ++ more → map begun_of new ≡ map begun_of all ++ map begun_of more
+all_appended new all more e = ap (map begun_of) e ∙ map_append begun_of all more
+
+pub nothing_left : (l : List Begun) → length l ≡ 0 → l ≡ []
+nothing_left [] h = refl
+nothing_left (x ∷ xs) h = absurd (omega (arith, h))
+
+pub no_side_left : (ss : List SubstTree) (i : ℕ) → length ss ≤ i → sides_of (drop i ss) ≡ End
+no_side_left [] zero le = refl
+no_side_left [] (suc i) le = refl
+no_side_left (s ∷ ss) zero le = absurd (omega (arith, le))
+no_side_left (s ∷ ss) (suc i) le = no_side_left ss i (omega (arith, le))

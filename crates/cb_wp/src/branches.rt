@@ -1,6 +1,6 @@
 //! The branches of a substitution.
 
-ghost use Rattle.std.specs.Prelude.{◌≡◌, ◌++◌, ◌∷◌, [], min, IfOk, OnOk, IfErr, MatchOption, None, map};
+ghost use Rattle.std.specs.Prelude.{◌≡◌, ◌++◌, ◌∷◌, [], min, IfOk, IfErr, None, map};
 ghost use Rattle.cb_spec.specs.Domains as domains;
 ghost use Rattle.cb_obligations.specs.Counts as counts;
 ghost use Rattle.cb_obligations.specs.Branches as spec;
@@ -9,7 +9,7 @@ ghost use Rattle.cb_term.specs.Tree as tree;
 ghost use Rattle.cb_wp.specs.Parts.{item_of, branch_of, begun_of, after, guarded, bound};
 ghost use Rattle.cb_wp.specs.Limits.{Tells, branch_limit};
 
-use crate::changes::Opened;
+use crate::changes::{Opened, next, put};
 use crate::limits::{MakeFault, Which};
 use cb_spec::subst::{Subst, SubstNode};
 use cb_term::Memory;
@@ -18,7 +18,7 @@ use cb_term::kind::{Base, Domain, Kind};
 use cb_term::name::Name;
 use cb_term::tree::{Formula, Term};
 use sqlite_items::Items;
-use std::alloc::{AllocError, Global};
+use std::alloc::Global;
 
 /// What stands in front of a branch's assignment.
 #[derive(Drop)]
@@ -158,29 +158,20 @@ fn opened_formula(alloc: Global, formula: &Formula, scope: &[Name]) -> Result<Fo
     change_formula(alloc, formula, &Opened { scope }, 0)
 }
 
-fn take_first<T: Drop>(items: &mut Items<T>) -> Option<T>
-    ensures { MatchOption result ((items.old ≡ []) × (items.new ≡ [])) (λ first. items.old ≡ first ∷ items.new) }
+fn one(alloc: Global, begun: Begun) -> Result<Vec<Begun>, Memory>
+    ensures { IfOk result (λ bs. bs.items ≡ begun ∷ []) }
 {
-    if items.is_empty() {
-        None
-    } else {
-        Some(items.remove(0))
-    }
-}
-
-fn one(alloc: Global, begun: Begun) -> Result<Items<Begun>, Memory>
-    ensures { IfOk result (λ bs. bs ≡ begun ∷ []) }
-{
-    let mut all = Items::new(alloc);
-    all.push(begun)?;
+    let mut all = Vec::new(alloc);
+    put(&mut all, begun)?;
     Ok(all)
 }
 
-fn joined(firsts: Items<Begun>, seconds: Items<Begun>) -> Result<Items<Begun>, Memory>
-    ensures { IfOk result (λ bs. bs ≡ firsts ++ seconds) }
+fn joined(firsts: Vec<Begun>, seconds: Vec<Begun>) -> Result<Vec<Begun>, Memory>
+    ensures { IfOk result (λ bs. map begun_of bs.items ≡ map begun_of firsts.items ++ map begun_of seconds.items) }
 {
     let mut all = firsts;
-    all.append(seconds)?;
+    let mut more = seconds;
+    all.append(&mut more)?;
     Ok(all)
 }
 
@@ -196,8 +187,8 @@ fn with_first(alloc: Global, name: Name, names: &[Name]) -> Result<Items<Name>, 
     Ok(all)
 }
 
-fn skip(alloc: Global, begun: Begun) -> Result<Items<Begun>, Memory>
-    ensures { IfOk result (λ bs. map begun_of bs ≡ after (λ k. spec.branches_from k [] subst.Skip) (begun_of begun)) }
+fn skip(alloc: Global, begun: Begun) -> Result<Vec<Begun>, Memory>
+    ensures { IfOk result (λ bs. map begun_of bs.items ≡ after (λ k. spec.branches_from k [] subst.Skip) (begun_of begun)) }
 {
     one(alloc, begun)
 }
@@ -208,8 +199,8 @@ fn assign(
     value: &Term,
     begun: Begun,
     scope: &[Name],
-) -> Result<Items<Begun>, Memory>
-    ensures { IfOk result (λ bs. map begun_of bs ≡ after (λ k. spec.branches_from k scope.now (subst.Assign target.now value.now)) (begun_of begun)) }
+) -> Result<Vec<Begun>, Memory>
+    ensures { IfOk result (λ bs. map begun_of bs.items ≡ after (λ k. spec.branches_from k scope.now (subst.Assign target.now value.now)) (begun_of begun)) }
 {
     let target = target.copy(alloc)?;
     let value = opened_term(alloc, value, scope)?;
@@ -217,16 +208,26 @@ fn assign(
     one(alloc, written)
 }
 
-// Behind the guard, and behind its negation.
-fn both_sides(alloc: Global, begun: Begun, guard: Formula) -> Result<(Begun, Begun), Memory>
-    ensures { IfOk result (λ p. (begun_of p.0 ≡ guarded (begun_of begun) guard) × (begun_of p.1 ≡ guarded (begun_of begun) (tree.Not guard))) }
+// With the test as a guard.
+fn behind(alloc: Global, begun: Begun, test: &Formula, scope: &[Name]) -> Result<Begun, Memory>
+    ensures { IfOk result (λ b. begun_of b ≡ guarded (begun_of begun) (spec.opened scope.now test.now)) }
 {
-    let copied = guard.copy(alloc)?;
-    let first = begun.copy(alloc)?;
-    let first = first.guarded(copied)?;
+    let guard = opened_formula(alloc, test, scope)?;
+    begun.guarded(guard)
+}
+
+// With the test's negation as a guard.
+fn behind_not(
+    alloc: Global,
+    begun: Begun,
+    test: &Formula,
+    scope: &[Name],
+) -> Result<Begun, Memory>
+    ensures { IfOk result (λ b. begun_of b ≡ guarded (begun_of begun) (tree.Not (spec.opened scope.now test.now))) }
+{
+    let guard = opened_formula(alloc, test, scope)?;
     let negated = Formula::not(alloc, guard)?;
-    let second = begun.guarded(negated)?;
-    Ok((first, second))
+    begun.guarded(negated)
 }
 
 // The name in front of the scope's.
@@ -255,42 +256,43 @@ fn bound(
 }
 
 // The substitution's branches, each after what is begun. The innermost name of the scope is the first.
-#[tactic(none)]
 fn branches_after(
     alloc: Global,
     subst: &Subst,
     begun: Begun,
     scope: &[Name],
-) -> Result<Items<Begun>, Memory>
-    ensures { IfOk result (λ bs. map begun_of bs ≡ after (λ k. spec.branches_from k scope.now subst.now) (begun_of begun)) }
+) -> Result<Vec<Begun>, Memory>
+    ensures { IfOk result (λ bs. map begun_of bs.items ≡ after (λ k. spec.branches_from k scope.now subst.now) (begun_of begun)) }
 {
     match &subst.node {
         SubstNode::Skip => skip(alloc, begun),
         SubstNode::Assign { target, value } => assign(alloc, target, value, begun, scope),
         SubstNode::Together(a, b) => {
-            let mut firsts = branches_after(alloc, a, begun, scope)?;
-            let mut all = Items::new(alloc);
-            while let Some(first) = take_first(&mut firsts) {
-                let more = branches_after(alloc, b, first, scope)?;
-                all.append(more)?;
+            let firsts = branches_after(alloc, a, begun, scope)?;
+            let mut all = Vec::new(alloc);
+            for first in firsts {
+                let mut more = branches_after(alloc, b, first, scope)?;
+                all.append(&mut more)?;
             }
             Ok(all)
         }
         SubstNode::Choice(sides) => {
-            let mut all = Items::new(alloc);
+            let mut all = Vec::new(alloc);
             for side in sides.as_slice() {
                 let copied = begun.copy(alloc)?;
-                let more = branches_after(alloc, side, copied, scope)?;
-                all.append(more)?;
+                let mut more = branches_after(alloc, side, copied, scope)?;
+                all.append(&mut more)?;
             }
             Ok(all)
         }
         SubstNode::If { test, then, other } => {
-            let guard = opened_formula(alloc, test, scope)?;
-            let (first, second) = both_sides(alloc, begun, guard)?;
+            let copied = begun.copy(alloc)?;
+            let first = behind(alloc, copied, test, scope)?;
             let firsts = branches_after(alloc, then, first, scope)?;
+            let second = behind_not(alloc, begun, test, scope)?;
             let seconds = branches_after(alloc, other, second, scope)?;
-            joined(firsts, seconds)
+            let all = joined(firsts, seconds)?;
+            Ok(all)
         }
         SubstNode::AnyOf {
             name,
@@ -298,10 +300,11 @@ fn branches_after(
             test,
             body,
         } => {
-            let number = begun.number.checked_add(1).ok_or(AllocError)?;
+            let number = next(begun.number)?;
             let inner = within(alloc, name, number, scope)?;
-            let begun = bound(alloc, name, *domain, test, begun, number, inner.as_slice())?;
-            branches_after(alloc, body, begun, inner.as_slice())
+            let inside = bound(alloc, name, *domain, test, begun, number, inner.as_slice())?;
+            let all = branches_after(alloc, body, inside, inner.as_slice())?;
+            Ok(all)
         }
     }
 }
@@ -333,13 +336,12 @@ fn all_branches(alloc: Global, subst: &Subst) -> Result<Items<Branch>, Memory>
     without_numbers(alloc, branches_after(alloc, subst, begun, &[])?)
 }
 
-fn without_numbers(alloc: Global, begun: Items<Begun>) -> Result<Items<Branch>, Memory>
-    ensures { IfOk result (λ bs. map branch_of bs ≡ map (λ b. branch_of b.branch) begun) }
+fn without_numbers(alloc: Global, begun: Vec<Begun>) -> Result<Items<Branch>, Memory>
+    ensures { IfOk result (λ bs. map branch_of bs ≡ map (λ b. branch_of b.branch) begun.items) }
 {
-    let mut begun = begun;
     let mut branches = Items::new(alloc);
-    while let Some(Begun { branch, .. }) = take_first(&mut begun) {
-        branches.push(branch)?;
+    for one in begun {
+        branches.push(one.branch)?;
     }
     Ok(branches)
 }

@@ -1,6 +1,6 @@
 //! Names in the places of names and of bound variables, and bound variables and terms in the places of names.
 
-ghost use Rattle.std.specs.Prelude.{◌≡◌, IfOk, OnOk, ◌∷◌};
+ghost use Rattle.std.specs.Prelude.{◌≡◌, ◌+◌, IfOk, OnOk, [], ◌∷◌, ◌++◌};
 ghost use Rattle.cb_term.specs.Tree as tree;
 ghost use Rattle.cb_term.specs.Change.{name_stays, bound_stays};
 ghost use Rattle.cb_obligations.specs.Branches as branches;
@@ -148,12 +148,19 @@ impl Change for Freed<'_> {
     }
 }
 
-/// Puts the name in front.
-pub fn put_first(names: &mut Vec<Name>, name: Name) -> Result<(), Memory>
-    ensures { OnOk result (names.new.items ≡ name ∷ names.old.items) }
+/// Appends the item.
+pub fn put<T: Drop>(into: &mut Vec<T>, item: T) -> Result<(), Memory>
+    ensures { OnOk result (into.new.items ≡ into.old.items ++ item ∷ []) }
 {
-    match names.insert(0, name) {
+    match into.push(item) {
         Ok(()) => Ok(()),
         Err(_) => Err(AllocError),
     }
+}
+
+/// One more.
+pub fn next(number: u32) -> Result<u32, Memory>
+    ensures { IfOk result (λ n. n ≡ number + 1) }
+{
+    number.checked_add(1).ok_or(AllocError)
 }
