@@ -1,17 +1,17 @@
 -- Counts of branches, and branches after others.
-use Rattle.std.proofs.Common.{◌≡◌, ◌≤◌, ℕ, zero, suc, ◌+◌, ◌*◌, min, List, [], ◌∷◌, ◌++◌, map, flat_map, refl, sym, ap, ap₂, ◌∙◌, append_assoc, length, drop, arith, ◌⊎◌, inl, inr}
+use Rattle.std.proofs.Common.{◌≡◌, ◌≤◌, ℕ, zero, suc, ◌+◌, ◌*◌, min, List, [], ◌∷◌, ◌++◌, map, flat_map, refl, sym, ap, ap₂, ◌∙◌, append_assoc, length, drop, arith, inl, inr}
 use Rattle.std.proofs.Math.Nat.{mul-le-mul}
 use Rattle.std.proofs.lemmas.Bool.{cases_lt}
 use Rattle.std.proofs.lemmas.List.{append-nil}
 use Rattle.cb_term.specs.declared.name.Name.{Name}
 use Rattle.cb_term.specs.declared.kind.Kind.{Kind}
 use Rattle.cb_term.specs.declared.kind.Domain.{Domain}
-use Rattle.cb_term.specs.Tree.{TermTree, FormulaTree, Not}
+use Rattle.cb_term.specs.Tree.{FormulaTree, Not}
 use Rattle.cb_spec.specs.Domains.{kind_of}
 use Rattle.cb_spec.specs.SubstTree.{SubstTree, Together, Choice, If, AnyOf, SubstTrees, End, More, sides_of}
 use Rattle.cb_obligations.specs.Branches.{Item, Bind, Guard, Assigned, Branch, numbered, opened, binds, guarded, bound, joined, branches_from, branches_of_each}
 use Rattle.cb_wp.specs.Parts as begun
-use Rattle.cb_wp.specs.Parts.{begun_of, after}
+use Rattle.cb_wp.specs.Parts.{branch_of, begun_of, after}
 use Rattle.cb_wp.specs.declared.branches.Begun.{Begun}
 
 -- where one factor is at least 257, the product is 0 or at least 257
@@ -180,3 +180,17 @@ no_side_left [] zero le = refl
 no_side_left [] (suc i) le = refl
 no_side_left (s ∷ ss) zero le = absurd (omega (arith, le))
 no_side_left (s ∷ ss) (suc i) le = no_side_left ss i (omega (arith, le))
+
+-- ---- without numbers
+
+plain_begun : (bs : List Begun) → map (λ (b : Begun). branch_of b.branch) bs ≡ map (λ (c : ℕ × Branch). c.1) (map begun_of bs)
+plain_begun [] = refl
+plain_begun (b ∷ bs) = ap (λ qs. branch_of b.branch ∷ qs) (plain_begun bs)
+
+plain_follow : (qs : List Branch) → map (λ (c : ℕ × Branch). c.1) (follow (0, record { items = []; writes = [] }) qs) ≡ qs
+plain_follow [] = refl
+plain_follow (q ∷ qs) = ap (λ rs. q ∷ rs) (plain_follow qs)
+
+pub all_plain : (bs : List Begun) (qs : List Branch) → map begun_of bs ≡ follow (0, record { items = []; writes = [] }) qs →
+    map (λ (b : Begun). branch_of b.branch) bs ≡ qs
+all_plain bs qs e = plain_begun bs ∙ ap (map (λ (c : ℕ × Branch). c.1)) e ∙ plain_follow qs

@@ -1,5 +1,5 @@
 -- The limits of a list of obligations, and the first that is passed.
-use Rattle.std.specs.Prelude.{ℕ, ◌≡◌, ◌+◌, ltb, leb, List, [], ◌∷◌, Option, Some, None, if◌then◌else◌, ⊤}
+use Rattle.std.specs.Prelude.{◌≡◌, ltb, Option, Some, None, if◌then◌else◌, ⊤}
 use Rattle.cb_spec.specs.SubstTree.{SubstTree}
 use Rattle.cb_obligations.specs.Counts.{branch_count}
 use Rattle.cb_wp.specs.declared.limits.Which.{Which}

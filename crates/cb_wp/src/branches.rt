@@ -128,7 +128,9 @@ pub fn branch_count(subst: &Subst) -> u64
             }
             sum
         }
-        SubstNode::If { then, other, .. } => least(branch_count(then).saturating_add(branch_count(other))),
+        SubstNode::If { then, other, .. } => least(branch_count(then).saturating_add(branch_count(
+            other,
+        ))),
         SubstNode::AnyOf { body, .. } => branch_count(body),
     }
 }
@@ -175,8 +177,8 @@ fn joined(firsts: Vec<Begun>, seconds: Vec<Begun>) -> Result<Vec<Begun>, Memory>
     Ok(all)
 }
 
-// The names with this one in front.
-fn with_first(alloc: Global, name: Name, names: &[Name]) -> Result<Items<Name>, Memory>
+/// The names with this one in front.
+pub fn with_first(alloc: Global, name: Name, names: &[Name]) -> Result<Items<Name>, Memory>
     ensures { IfOk result (λ xs. xs ≡ name ∷ names.now) }
 {
     let mut all = Items::new(alloc);
@@ -217,12 +219,7 @@ fn behind(alloc: Global, begun: Begun, test: &Formula, scope: &[Name]) -> Result
 }
 
 // With the test's negation as a guard.
-fn behind_not(
-    alloc: Global,
-    begun: Begun,
-    test: &Formula,
-    scope: &[Name],
-) -> Result<Begun, Memory>
+fn behind_not(alloc: Global, begun: Begun, test: &Formula, scope: &[Name]) -> Result<Begun, Memory>
     ensures { IfOk result (λ b. begun_of b ≡ guarded (begun_of begun) (tree.Not (spec.opened scope.now test.now))) }
 {
     let guard = opened_formula(alloc, test, scope)?;
@@ -322,18 +319,26 @@ pub fn branches(alloc: Global, subst: &Subst) -> Result<Items<Branch>, MakeFault
     Ok(all_branches(alloc, subst)?)
 }
 
-// The branches, however many.
-fn all_branches(alloc: Global, subst: &Subst) -> Result<Items<Branch>, Memory>
-    ensures { IfOk result (λ bs. map branch_of bs ≡ spec.branches subst.now) }
+fn begin(alloc: Global) -> Begun
+    ensures { begun_of result ≡ (0, record { items = []; writes = [] }) }
 {
-    let begun = Begun {
+    Begun {
         branch: Branch {
             items: Items::new(alloc),
             writes: Items::new(alloc),
         },
         number: 0,
-    };
-    without_numbers(alloc, branches_after(alloc, subst, begun, &[])?)
+    }
+}
+
+// The branches, however many.
+fn all_branches(alloc: Global, subst: &Subst) -> Result<Items<Branch>, Memory>
+    ensures { IfOk result (λ bs. map branch_of bs ≡ spec.branches subst.now) }
+{
+    let begun = begin(alloc);
+    let made = branches_after(alloc, subst, begun, &[])?;
+    let all = without_numbers(alloc, made)?;
+    Ok(all)
 }
 
 fn without_numbers(alloc: Global, begun: Vec<Begun>) -> Result<Items<Branch>, Memory>

@@ -5,4 +5,3 @@
 pub mod branches;
 pub mod changes;
 pub mod limits;
-

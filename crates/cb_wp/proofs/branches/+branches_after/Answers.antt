@@ -1,9 +1,9 @@
-use Rattle.std.proofs.Common.{◌≡◌, ◌∷◌, [], ◌++◌, ℕ, List, length, map, flat_map, sym, ap, ap₂, ◌∙◌, drop, arith}
+use Rattle.std.proofs.Common.{◌≡◌, ◌∷◌, [], ◌++◌, ℕ, List, length, map, flat_map, sym, ap, ap₂, ◌∙◌, arith}
 use Rattle.std.specs.Vec.Iter.{into_iter_items}
 use Rattle.std.proofs.lemmas.List.{append-nil}
 use Rattle.cb_term.proofs.Steps.{drop_step}
 use Rattle.cb_term.specs.declared.name.Name.{Name}
-use Rattle.cb_spec.specs.SubstTree.{SubstTree, Together, Choice, If, AnyOf, sides_of}
+use Rattle.cb_spec.specs.SubstTree.{SubstTree, Choice, sides_of}
 use Rattle.cb_spec.specs.SubstView.{subst_of}
 use Rattle.cb_spec.specs.Domains.{kind_of}
 use Rattle.cb_obligations.specs.Branches.{Branch, opened, branches_from, branches_of_each}
@@ -18,12 +18,12 @@ loop-first-preserved t c =
     let steps : into_iter_items c.loop-first.first-iterator ≡ c.in-Some.first ∷ into_iter_items c.next.new.self = c.in-Some.ensures.steps.0 in
     record {
       list = of_first each (begun_of c.in-Some.first) _ _ _ _ _ _
-      (ap (map begun_of) steps)
-      (c.in_ok-more-in-Together.ensures ∙ ap (λ s. after (λ k. branches_from k c.args.scope.now s) (begun_of c.in-Some.first)) c.deref-in-loop-first.ensures)
-      (all_appended c.append.new.self.items c.loop-first.all.items c.in_ok-more-in-Together.more.items c.in_ok-append-in-Together.ensures.items)
-      c.loop-first.invariant.list;
+          (ap (map begun_of) steps)
+          (c.in_ok-more-in-Together.ensures ∙ ap (λ s. after (λ k. branches_from k c.args.scope.now s) (begun_of c.in-Some.first)) c.deref-in-loop-first.ensures)
+          (all_appended c.append.new.self.items c.loop-first.all.items c.in_ok-more-in-Together.more.items c.in_ok-append-in-Together.ensures.items)
+          c.loop-first.invariant.list;
       long =
-      let was = c.loop-first.invariant.long in
+          let was = c.loop-first.invariant.long in
           let gone = c.in-Some.ensures.steps.1 in
           let short = ap length steps in
           omega arith;
