@@ -1,0 +1,7 @@
+pub mod Pieces
+pub mod Simple
+pub mod Domains
+pub mod Steps
+pub mod Operations
+pub mod Texts
+pub mod Units

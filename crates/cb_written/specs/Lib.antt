@@ -1,0 +1,4 @@
+pub mod Substitutions
+pub mod Texts
+pub mod Processes
+pub mod Units
