@@ -1,0 +1,3 @@
+pub mod Tokens
+pub mod Formulas
+pub mod Printed
