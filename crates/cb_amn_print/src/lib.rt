@@ -3,6 +3,7 @@
 #![tactic(auto)]
 
 mod formulas;
+pub mod laws;
 mod tokens;
 
 pub use formulas::{print_formula, print_term, put_formula, put_term};

@@ -1,0 +1,5 @@
+use Rattle.cb_amn_print.proofs.Pieces as pieces
+use Rattle.cb_amn_print.proofs.laws.formula_is_printed_back.Goals as goal
+
+pub returns : goal.returns
+returns c = ?
