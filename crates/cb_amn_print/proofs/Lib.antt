@@ -1,3 +1,5 @@
 pub mod Fronts
 pub mod Scripts
 pub mod Pieces
+pub mod Lines
+pub mod Spelled
