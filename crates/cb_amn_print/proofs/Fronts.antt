@@ -30,11 +30,10 @@ both {a = false} {b = b} e = absurd (cc)
 -- a run that another byte ends
 pub run_of : (p : ℕ → Bool) (xs : List ℕ) (y : ℕ) (ys : List ℕ) → all_in p xs ≡ true → p y ≡ false → run_length p (xs ++ y ∷ ys) ≡ length xs
 run_of p [] y ys a e = rw e refl
-run_of p (x ∷ xs) y ys a e = 
+run_of p (x ∷ xs) y ys a e =
     let h : p x ≡ true = (both a).0 in
-    let r = run_of p xs y ys (both a).1 e in
     let q : 1 + length xs ≡ suc (length xs) = omega arith in
-    rw (h, r) q
+    rw (h, run_of p xs y ys (both a).1 e) q
 
 pub take_of : (xs ys : List ℕ) → take (length xs) (xs ++ ys) ≡ xs
 take_of [] ys = refl
@@ -327,6 +326,11 @@ IsRead (sort.Number z) = (n : ℕ) × ((z ≡ pos n) × (n ≤ 92233720368547758
 IsRead (sort.Keyword k) = keyword_of (letters k) ≡ Some k
 IsRead (sort.Sign s) = Unit {0}
 IsRead sort.Finish = ⊥
+
+-- and the end of a text
+abbrev pub IsToken : Sort → Type 0
+IsToken sort.Finish = Unit {0}
+IsToken s = IsRead s
 
 -- it is that token where a blank stands behind it
 pub front_said : (s : Sort) (ys : List ℕ) → IsRead s → front (sort_text s ++ 32 ∷ ys) ≡ Makes s (length (sort_text s))

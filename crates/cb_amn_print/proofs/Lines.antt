@@ -30,7 +30,7 @@ abbrev pub is_proof : Keyword → Bool
 is_proof keyword.Proof = true
 is_proof _ = false
 
-keyword_read : (k : Keyword) → keyword_of (letters k) ≡ Some k
+pub keyword_read : (k : Keyword) → keyword_of (letters k) ≡ Some k
 unfolding keyword_of
 keyword_read keyword.Machine = refl
 keyword_read keyword.Sees = refl

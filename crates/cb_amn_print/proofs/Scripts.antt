@@ -158,7 +158,7 @@ unplaced_twice (sort.Keyword k) at = refl
 unplaced_twice (sort.Sign s) at = refl
 unplaced_twice sort.Finish at = refl
 
-dropped : (all : List Token) (i : ℕ) (t : Token) (ts : List Token) → drop i all ≡ t ∷ ts → (slice_get all i ≡ Some t) × (drop (i + 1) all ≡ ts)
+pub dropped : (all : List Token) (i : ℕ) (t : Token) (ts : List Token) → drop i all ≡ t ∷ ts → (slice_get all i ≡ Some t) × (drop (i + 1) all ≡ ts)
 dropped all i t ts e = let n : i + 1 ≡ suc i = omega arith in rw n (go all i e)
   where
     go : (all : List Token) (i : ℕ) → drop i all ≡ t ∷ ts → (slice_get all i ≡ Some t) × (drop (suc i) all ≡ ts)

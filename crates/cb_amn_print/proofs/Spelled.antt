@@ -37,7 +37,7 @@ use Rattle.cb_amn_parse.specs.Words.{atom_sort, atom_action, operator_sort, oper
 use Rattle.cb_amn_parse.specs.Formulas.{term_out, listed_out, formula_out}
 use Rattle.cb_amn_print.specs.Tokens.{name_sort}
 use Rattle.cb_amn_print.specs.Formulas.{is_and, is_or, is_arrow}
-use Rattle.cb_amn_print.proofs.Fronts.{IsRead}
+use Rattle.cb_amn_print.proofs.Fronts.{IsRead, IsToken}
 use Rattle.cb_amn_print.proofs.Scripts.{Piece, Silent, Kept, Done, nothing}
 use Rattle.cb_amn_print.proofs.Pieces.{open_piece, close_piece, term_script, terms_script, formula_script}
 use Rattle.cb_amn_print.proofs.Lines.{Good, Stands, join, sign_taken, word_taken, sign_kept, word_kept, number_kept, name_kept, act, by_line, by_table}
@@ -54,7 +54,7 @@ pub record Laws : Type 0 where
 -- the tokens of what is written may stand there
 abbrev pub Fine : Bool → Lexeme → Type 0
 Fine opened (Named x) = IsRead (name_sort x) × Stands opened (name_sort x)
-Fine opened (Said s p) = IsRead s
+Fine opened (Said s p) = IsToken s
 Fine opened (Did a) = Unit {0}
 Fine opened Lost = Unit {0}
 
@@ -292,7 +292,7 @@ module _ (opened : Bool) (laws : Laws) where
         let h = set_good ts e in
         let s = join opened (sign_kept opened sign.OpenBrace) (join opened (act opened action.NO_TERMS) (join opened h (act opened action.LISTED))) in
         let whole : G (Keep (sign_class sign.OpenBrace) ∷ (Act action.NO_TERMS ∷ (Part part.set_end ∷ (Act action.LISTED ∷ [])))) (term_script false (tree.Listed p ts)) =
-            subst (λ (x : List Piece). G (Keep (sign_class sign.OpenBrace) ∷ (Act action.NO_TERMS ∷ (Part part.set_end ∷ (Act action.LISTED ∷ [])))) (Kept (sort.Sign sign.OpenBrace) ∷ (Done action.NO_TERMS ∷ x))) (append_assoc (terms_script true ts) (Silent (sort.Sign sign.CloseBrace) ∷ []) (Done action.LISTED ∷ [])) s in
+        subst (λ (x : List Piece). G (Keep (sign_class sign.OpenBrace) ∷ (Act action.NO_TERMS ∷ (Part part.set_end ∷ (Act action.LISTED ∷ [])))) (Kept (sort.Sign sign.OpenBrace) ∷ (Done action.NO_TERMS ∷ x))) (append_assoc (terms_script true ts) (Silent (sort.Sign sign.CloseBrace) ∷ []) (Done action.LISTED ∷ [])) s in
         single _ (start _ _ (inr (inr (inr (inr (inr (inr (inr (inr (inr (inr (inr (inr (inr (inl refl)))))))))))))) whole)
 
     -- all terms and the brace

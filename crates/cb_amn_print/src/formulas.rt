@@ -49,12 +49,7 @@ fn is_arrow(formula: &RawFormula) -> bool
 
 /// Appends the text of a term, as an operand if it is `inner`.
 #[cycle(text)]
-pub fn put_term(
-    alloc: Global,
-    out: &mut Vec<u8>,
-    inner: bool,
-    term: &RawTerm,
-) -> Result<(), Memory>
+pub fn put_term(alloc: Global, out: &mut Vec<u8>, inner: bool, term: &RawTerm) -> Result<(), Memory>
     ensures { OnOk result (out.new.items ≡ out.old.items ++ text.term_text inner term.now) }
 {
     match &term.node {

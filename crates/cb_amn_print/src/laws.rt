@@ -5,13 +5,46 @@ ghost use Rattle.cb_amn_parse.specs.Formulas.{formula_out, term_out};
 ghost use Rattle.cb_amn_print.specs.Formulas.{formula_text, term_text};
 ghost use Rattle.cb_amn_print.specs.Printed.{IsPrintedBack};
 ghost use Rattle.std.specs.Prelude.{false};
+ghost use Rattle.cb_grammar.specs.Written.{LinesArePlain, FormulaIsWritten, PartIsWritten, TermIsWritten, SumIsWritten, ProductIsWritten};
+ghost use Rattle.cb_written.specs.Units.{UnitIsWritten};
+
+use cb_grammar::laws as grammar;
+use cb_written::laws as written;
+
+fn lines_of_formulas()
+    ensures plain { LinesArePlain }
+    ensures formula { FormulaIsWritten }
+    ensures part { PartIsWritten }
+    ensures unit { UnitIsWritten }
+{
+    grammar::lines_are_plain();
+    grammar::formula_is_written();
+    grammar::part_is_written();
+    written::unit_is_written();
+}
+
+fn lines_of_terms()
+    ensures term { TermIsWritten }
+    ensures sum { SumIsWritten }
+    ensures product { ProductIsWritten }
+{
+    grammar::term_is_written();
+    grammar::sum_is_written();
+    grammar::product_is_written();
+}
 
 /// What is printed of a formula that some text spells, spells this formula again, places aside.
 pub fn formula_is_printed_back()
     ensures { IsPrintedBack (formula_text false) formula_out part.Formula }
-{}
+{
+    lines_of_formulas();
+    lines_of_terms();
+}
 
 /// What is printed of a term that some text spells, spells this term again, places aside.
 pub fn term_is_printed_back()
     ensures { IsPrintedBack (term_text false) term_out part.Term }
-{}
+{
+    lines_of_formulas();
+    lines_of_terms();
+}
