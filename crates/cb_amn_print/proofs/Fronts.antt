@@ -33,7 +33,9 @@ run_of p [] y ys a e = rw e refl
 run_of p (x ∷ xs) y ys a e =
     let h : p x ≡ true = (both a).0 in
     let q : 1 + length xs ≡ suc (length xs) = omega arith in
-    rw (h, run_of p xs y ys (both a).1 e) q
+    let all : all_in p xs ≡ true = (both a).1 in
+    let r : run_length p (xs ++ y ∷ ys) ≡ length xs = run_of p xs y ys all e in
+    rw (h, r) q
 
 pub take_of : (xs ys : List ℕ) → take (length xs) (xs ++ ys) ≡ xs
 take_of [] ys = refl
