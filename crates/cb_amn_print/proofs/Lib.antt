@@ -5,4 +5,8 @@ pub mod Lines
 pub mod Spelled
 pub mod Premises
 pub mod Heard
+pub mod MachinePieces
+pub mod WholePieces
+pub mod MachineSpelled
+pub mod WholeSpelled
 pub mod PrintedBack

@@ -179,7 +179,7 @@ told-relation relation.Member p = refl
 told-relation relation.NotMember p = refl
 told-relation relation.Subset p = refl
 
-abbrev bare : List Lexeme → List Lexeme
+abbrev pub bare : List Lexeme → List Lexeme
 bare ls = map unplaced ls
 
 quantified_told : (n : Lexeme) (d f e : List Lexeme) → bare (((n ∷ d) ++ f) ++ e) ≡ unplaced n ∷ (bare d ++ (bare f ++ bare e))

@@ -139,6 +139,12 @@ told-append (Silent s ∷ p) q = told-append p q
 told-append (Kept s ∷ p) q = ap (λ (x : List Lexeme). unplaced (heard_at s start) ∷ x) (told-append p q)
 told-append (Done a ∷ p) q = ap (λ (x : List Lexeme). Did a ∷ x) (told-append p q)
 
+pub text-both : (p q : List Piece) (a b : List ℕ) → text_of p ≡ a → text_of q ≡ b → text_of (p ++ q) ≡ a ++ b
+text-both p q a b e f = text-append p q ∙ ap (λ (x : List ℕ). x ++ text_of q) e ∙ ap (λ (x : List ℕ). a ++ x) f
+
+pub told-both : (p q : List Piece) (a b : List Lexeme) → told_of p ≡ a → told_of q ≡ b → told_of (p ++ q) ≡ a ++ b
+told-both p q a b e f = told-append p q ∙ ap (λ (x : List Lexeme). x ++ told_of q) e ∙ ap (λ (x : List Lexeme). a ++ x) f
+
 -- ---- its tokens
 
 -- the tokens of the pieces, with their places

@@ -1,3 +1,4 @@
 pub mod Tokens
 pub mod Formulas
+pub mod Machines
 pub mod Printed

@@ -3,9 +3,12 @@
 ghost use Rattle.cb_grammar.specs.declared.parts.Part.TheVariants as part;
 ghost use Rattle.cb_amn_parse.specs.Formulas.{formula_out, term_out};
 ghost use Rattle.cb_amn_print.specs.Formulas.{formula_text, term_text};
-ghost use Rattle.cb_amn_print.specs.Printed.{IsPrintedBack};
+ghost use Rattle.cb_amn_print.specs.Printed.{IsPrintedBack, IsFullPrintedBack};
 ghost use Rattle.std.specs.Prelude.{false};
-ghost use Rattle.cb_grammar.specs.Written.{LinesArePlain, FormulaIsWritten, PartIsWritten, TermIsWritten, SumIsWritten, ProductIsWritten};
+ghost use Rattle.cb_grammar.specs.Written.{LinesArePlain, FormulaIsWritten, PartIsWritten, TermIsWritten, SumIsWritten, ProductIsWritten, SubstitutionIsWritten};
+ghost use Rattle.cb_written.specs.Substitutions.{SimpleIsWritten, DomainIsWritten, BoundIsWritten};
+ghost use Rattle.cb_amn_parse.specs.Machines.{machine_out};
+ghost use Rattle.cb_amn_print.specs.Machines.{machine_text, IsFull};
 ghost use Rattle.cb_written.specs.Units.{UnitIsWritten};
 
 use cb_grammar::laws as grammar;
@@ -33,6 +36,18 @@ fn lines_of_terms()
     grammar::product_is_written();
 }
 
+fn lines_of_substitutions()
+    ensures substitution { SubstitutionIsWritten }
+    ensures simple { SimpleIsWritten }
+    ensures domain { DomainIsWritten }
+    ensures bound { BoundIsWritten }
+{
+    grammar::substitution_is_written();
+    written::simple_is_written();
+    written::domain_is_written();
+    written::bound_is_written();
+}
+
 /// What is printed of a formula that some text spells, spells this formula again, places aside.
 pub fn formula_is_printed_back()
     ensures { IsPrintedBack (formula_text false) formula_out part.Formula }
@@ -47,4 +62,15 @@ pub fn term_is_printed_back()
 {
     lines_of_formulas();
     lines_of_terms();
+}
+
+/// What is printed of a machine that some text spells, spells this machine again, places aside. The machine has no set
+/// without elements, no VARIABLES without names, no CONSTANTS or PROPERTIES alone, and no CHOICE of less than two sides.
+pub fn machine_is_printed_back()
+    ensures { IsFullPrintedBack machine_text machine_out IsFull part.Machine }
+{
+    lines_of_formulas();
+    lines_of_terms();
+    lines_of_substitutions();
+    written::operation_is_written();
 }
