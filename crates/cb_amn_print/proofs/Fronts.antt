@@ -1,6 +1,6 @@
 -- A token that is printed with a blank behind it is read as that token.
-use Rattle.std.proofs.Common.{◌≡◌, ℕ, zero, suc, ◌≤◌, ◌<◌, ◌+◌, ◌*◌, ◌-◌, ◌^◌, Bool, true, false, List, [], ◌∷◌, ◌++◌, length, take, drop, refl, ap, sym, ◌∙◌, arith, cond, append_assoc}
-use Rattle.std.specs.Prelude.{Option, Some, None, ℤ, pos, ◌&&◌, ◌||◌, ◌==◌, nat_le, if◌then◌else◌, codes, decimal}
+use Rattle.std.proofs.Common.{◌≡◌, ℕ, zero, suc, ◌≤◌, ◌<◌, ◌+◌, ◌*◌, ◌-◌, ◌^◌, Bool, true, false, List, [], ◌∷◌, ◌++◌, length, take, drop, refl, ap, sym, ◌∙◌, arith, append_assoc}
+use Rattle.std.specs.Prelude.{Option, Some, None, pos, ◌&&◌, nat_le, if◌then◌else◌, codes, decimal}
 use Rattle.std.specs.Char.{is_ascii_digit, is_ascii_alphabetic}
 use Rattle.std.specs.Char.{digit_value}
 use Rattle.std.proofs.lemmas.Str.Parse.{digit_at}
@@ -14,7 +14,7 @@ use Rattle.cb_lex.specs.declared.token.Sign.TheVariants as sign
 use Rattle.cb_lex.specs.declared.token.Sort.{Sort}
 use Rattle.cb_lex.specs.declared.token.Sort.TheVariants as sort
 use Rattle.cb_lex.specs.declared.front.Front.{Front}
-use Rattle.cb_lex.specs.declared.front.Front.TheVariants.{Nothing, Gap, Makes}
+use Rattle.cb_lex.specs.declared.front.Front.TheVariants.{Gap, Makes}
 use Rattle.cb_lex.specs.Spelling.{letters, keyword_of, marks, sign_at}
 use Rattle.cb_lex.specs.Lexis.{is_blank, is_word, run_length, starts, value_from, number_of, marks_number, may_open, plain_front, numbered_front, opened_front, word_front, number_front, digits_front, other_front, front}
 use Rattle.cb_amn_print.specs.Tokens.{sort_text}

@@ -1,5 +1,5 @@
 -- What is written for a part holds the words of its tokens; and where opened names may not stand, none of them is opened.
-use Rattle.std.proofs.Common.{◌≡◌, ℕ, zero, suc, ◌≤◌, ◌<◌, ◌+◌, Bool, true, false, List, [], ◌∷◌, ◌++◌, take, drop, refl, ap, sym, ◌∙◌, arith, cond, subst, eqb, ◌||◌}
+use Rattle.std.proofs.Common.{◌≡◌, ℕ, zero, suc, ◌+◌, Bool, true, false, List, [], ◌∷◌, ◌++◌, take, drop, refl, sym, ◌∙◌, arith, subst, eqb, ◌||◌}
 use Rattle.std.specs.Prelude.{Option, Some, None, not, ◌&&◌, if◌then◌else◌, slice_get}
 use Rattle.cb_lex.specs.declared.token.Keyword.TheVariants as keyword
 use Rattle.cb_lex.specs.declared.token.Sort.{Sort}
@@ -10,7 +10,6 @@ use Rattle.cb_engine.specs.declared.Symbol.{Symbol}
 use Rattle.cb_engine.specs.declared.Symbol.TheVariants.{Take, Keep, Act, Part, Gives, Then, Line}
 use Rattle.cb_engine.specs.declared.Terminal.{Terminal}
 use Rattle.cb_engine.specs.declared.Item.{Item}
-use Rattle.cb_engine.specs.declared.Item.TheVariants.{Word, Do}
 use Rattle.cb_engine.specs.Rules.{Rules, Runs, kept, group, admits, stands, chosen}
 use Rattle.cb_engine.specs.Rules.Runs.{ends, takes, keeps, acts, keys, others, goes_on}
 use Rattle.cb_engine.specs.Tables.{body, find_line, body_of, either, keyed_in, rules_of}
@@ -22,10 +21,9 @@ use Rattle.cb_grammar.specs.Classes.{keyword_class}
 use Rattle.cb_lex.specs.declared.token.Keyword.{Keyword}
 use Rattle.cb_amn_parse.specs.Spelling.{IsSpelled}
 use Rattle.cb_grammar.specs.Terminals.{class_of, terminals, opens}
-use Rattle.cb_amn_parse.specs.Lexemes.{Lexeme, Named, Said, Did, Lost, heard_at, heard, lexeme, lexemes}
-use Rattle.cb_amn_print.specs.Tokens.{name_sort}
-use Rattle.cb_amn_print.proofs.Fronts.{IsRead, IsToken, both}
-use Rattle.cb_amn_print.proofs.Lines.{Stands, plain, numbered}
+use Rattle.cb_amn_parse.specs.Lexemes.{Lexeme, heard_at, heard, lexemes}
+use Rattle.cb_amn_print.proofs.Fronts.{IsToken, both}
+use Rattle.cb_amn_print.proofs.Lines.{plain, numbered}
 use Rattle.cb_amn_print.proofs.Scripts.{dropped}
 use Rattle.cb_amn_print.proofs.Spelled.{Fine, AllFine}
 use Rattle.cb_amn_print.proofs.Premises.{AllTokens}

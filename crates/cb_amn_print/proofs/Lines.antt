@@ -1,15 +1,13 @@
 -- Pieces that the grammar's lines spell, and that may be printed.
-use Rattle.std.proofs.Common.{◌≡◌, ℕ, zero, suc, ◌<◌, ◌+◌, Bool, true, false, List, [], ◌∷◌, ◌++◌, refl, ap, sym, ◌∙◌, arith, append_assoc, subst, cond, ◌⊎◌, inl, inr, eqb, ◌||◌, nat_eq}
-use Rattle.std.specs.Prelude.{Some, None, ◌==◌, ℤ, if◌then◌else◌}
+use Rattle.std.proofs.Common.{◌≡◌, ℕ, suc, ◌<◌, Bool, true, false, List, [], ◌∷◌, ◌++◌, refl, sym, arith, subst, cond, inl, inr, eqb, ◌||◌, nat_eq}
+use Rattle.std.specs.Prelude.{Some, ℤ}
 use Rattle.std.proofs.lemmas.List.{append-nil}
 use Rattle.std.specs.Cmp.Lexicographic.{pointwise}
 use Rattle.cb_lex.specs.declared.token.Keyword.{Keyword}
 use Rattle.cb_lex.specs.declared.token.Keyword.TheVariants as keyword
 use Rattle.cb_lex.specs.declared.token.Sign.{Sign}
-use Rattle.cb_lex.specs.declared.token.Sign.TheVariants as sign
 use Rattle.cb_lex.specs.declared.token.Sort.{Sort}
 use Rattle.cb_lex.specs.declared.token.Sort.TheVariants as sort
-use Rattle.cb_lex.specs.declared.raw.name.RawName.{RawName}
 use Rattle.cb_lex.specs.Spelling.{letters, keyword_of}
 use Rattle.cb_engine.specs.declared.Symbol.{Symbol}
 use Rattle.cb_engine.specs.declared.Symbol.TheVariants.{Take, Keep, Act, Part}
@@ -19,12 +17,11 @@ use Rattle.cb_engine.specs.Rules.{Spells, admits, group}
 use Rattle.cb_engine.specs.Lines.{alternatives, OneOf, Among}
 use Rattle.cb_grammar.specs.declared.table.TheConstants.{GRAMMAR}
 use Rattle.cb_grammar.specs.Classes.{keyword_class, sign_class, words}
-use Rattle.cb_grammar.specs.Terminals.{class_of, class_in, word_class, opens}
+use Rattle.cb_grammar.specs.Terminals.{class_in, word_class, opens}
 use Rattle.cb_grammar.specs.Misreadings.{language}
 use Rattle.cb_grammar.specs.Written.{LinesArePlain, IsWritten}
-use Rattle.cb_amn_print.specs.Tokens.{name_sort}
 use Rattle.cb_amn_print.proofs.Fronts.{IsRead}
-use Rattle.cb_amn_print.proofs.Scripts.{Piece, Silent, Kept, Done, Spelled, Fits, AllFit, terms, items, and_then, silent, keeping, done, fit-append}
+use Rattle.cb_amn_print.proofs.Scripts.{Piece, Silent, Kept, Done, Spelled, AllFit, terms, items, and_then, silent, keeping, done, fit-append}
 
 abbrev pub is_proof : Keyword → Bool
 is_proof keyword.Proof = true

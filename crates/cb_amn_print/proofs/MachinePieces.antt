@@ -1,10 +1,8 @@
 -- Substitutions and machines token by token: their text, and what is written for them.
-use Rattle.std.proofs.Common.{◌≡◌, ℕ, zero, suc, ◌+◌, Bool, true, false, List, [], ◌∷◌, ◌++◌, refl, ap, sym, ◌∙◌, arith, append_assoc, length}
-use Rattle.std.specs.Prelude.{map, not, ◌==◌, if◌then◌else◌, Option, Some, None}
+use Rattle.std.proofs.Common.{◌≡◌, ℕ, Bool, true, false, List, [], ◌∷◌, ◌++◌, refl, ap, sym, ◌∙◌, append_assoc}
+use Rattle.std.specs.Prelude.{not}
 use Rattle.std.specs.List.{flat_map}
 use Rattle.std.proofs.lemmas.List.{append-nil, map-append}
-use Rattle.cb_lex.specs.declared.token.Place.{Place}
-use Rattle.cb_lex.specs.declared.token.Sort.{Sort}
 use Rattle.cb_lex.specs.declared.token.Sort.TheVariants as sort
 use Rattle.cb_lex.specs.declared.token.Keyword.{Keyword}
 use Rattle.cb_lex.specs.declared.token.Keyword.TheVariants as keyword
@@ -21,11 +19,10 @@ use Rattle.cb_lex.specs.declared.raw.domain.RawDomain.TheVariants as domain
 use Rattle.cb_lex.specs.RawSubstTree.{RawSubstTree, RawSubsts}
 use Rattle.cb_lex.specs.RawSubstTree as tree
 use Rattle.cb_grammar.specs.declared.actions.TheConstants as action
-use Rattle.cb_amn_parse.specs.Lexemes.{Lexeme, Named, Said, Did}
-use Rattle.cb_amn_parse.specs.Formulas.{term_out, formula_out, name_entry, names_out}
+use Rattle.cb_amn_parse.specs.Lexemes.{Lexeme, Named, Did}
+use Rattle.cb_amn_parse.specs.Formulas.{formula_out, name_entry, names_out}
 use Rattle.cb_amn_parse.specs.Machines.{literal_out, number_action, end_out, bound_out, bound_action, domain_out, subst_out, choice_out}
 use Rattle.cb_amn_print.specs.Tokens.{said, name_sort, name_text, only_if}
-use Rattle.cb_amn_print.specs.Formulas.{term_text, formula_text}
 use Rattle.cb_amn_print.specs.Machines.{names_text, literal_text, end_text, bound_text, domain_text, subst_text, sides_text}
 use Rattle.cb_amn_print.specs.Printed.{unplaced}
 use Rattle.cb_amn_print.proofs.Scripts.{Piece, Silent, Kept, Done, text_of, told_of, text-append, told-append, text-both, told-both}

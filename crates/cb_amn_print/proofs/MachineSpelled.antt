@@ -1,12 +1,9 @@
 -- The pieces of domains and substitutions are spelled by the grammar.
-use Rattle.std.proofs.Common.{◌≡◌, ℕ, zero, suc, ◌≤◌, Bool, true, false, List, [], ◌∷◌, ◌++◌, refl, ap, sym, ◌∙◌, append_assoc, subst, inl, inr, arith, length}
-use Rattle.std.specs.Prelude.{not, ◌==◌, Option, Some, None, ℤ}
+use Rattle.std.proofs.Common.{◌≡◌, zero, Bool, true, false, List, [], ◌∷◌, ◌++◌, refl, sym, append_assoc, subst, inl, inr}
 use Rattle.std.specs.List.{flat_map}
 use Rattle.std.proofs.lemmas.List.{append-nil}
-use Rattle.cb_lex.specs.declared.token.Keyword.{Keyword}
 use Rattle.cb_lex.specs.declared.token.Keyword.TheVariants as keyword
 use Rattle.cb_lex.specs.declared.token.Sign.TheVariants as sign
-use Rattle.cb_lex.specs.declared.token.Sort.TheVariants as sort
 use Rattle.cb_lex.specs.declared.raw.name.RawName.{RawName}
 use Rattle.cb_lex.specs.declared.raw.domain.RawLiteral.{RawLiteral}
 use Rattle.cb_lex.specs.declared.raw.domain.RawLiteral.TheVariants as literal
@@ -15,7 +12,6 @@ use Rattle.cb_lex.specs.declared.raw.domain.RawEnd.{RawEnd}
 use Rattle.cb_lex.specs.declared.raw.domain.RawEnd.TheVariants as end
 use Rattle.cb_lex.specs.declared.raw.domain.RawDomain.{RawDomain}
 use Rattle.cb_lex.specs.declared.raw.domain.RawDomain.TheVariants as domain
-use Rattle.cb_lex.specs.RawTermTree.{RawFormulaTree}
 use Rattle.cb_lex.specs.RawSubstTree.{RawSubstTree, RawSubsts}
 use Rattle.cb_lex.specs.RawSubstTree as tree
 use Rattle.cb_engine.specs.declared.Symbol.{Symbol}
@@ -28,19 +24,19 @@ use Rattle.cb_grammar.specs.Classes.{keyword_class, sign_class}
 use Rattle.cb_grammar.specs.Numbers as part
 use Rattle.cb_grammar.specs.Written.{SubstitutionIsWritten, SubstitutionLine, beside}
 use Rattle.cb_grammar.specs.Written.SubstitutionLine.{substitution}
-use Rattle.cb_written.specs.Substitutions.{SimpleIsWritten, SimpleLine, if_ends, or_side, DomainIsWritten, DomainLine, BoundIsWritten, BoundLine, end_lines}
+use Rattle.cb_written.specs.Substitutions.{SimpleIsWritten, SimpleLine, or_side, DomainIsWritten, DomainLine, BoundIsWritten, BoundLine, end_lines}
 use Rattle.cb_written.specs.Substitutions.SimpleLine.{skip, assign, among, begin, if, choice, any}
 use Rattle.cb_written.specs.Substitutions.DomainLine.{range, naturals, positives, integers, truths, named as named_domain}
 use Rattle.cb_written.specs.Substitutions.BoundLine.{bound, minus}
-use Rattle.cb_amn_parse.specs.Lexemes.{Lexeme, Named, Said, Did}
+use Rattle.cb_amn_parse.specs.Lexemes.{Named, Did}
 use Rattle.cb_amn_parse.specs.Formulas.{term_out, formula_out, name_entry, names_out}
-use Rattle.cb_amn_parse.specs.Machines.{literal_out, number_action, end_out, bound_out, bound_action, domain_out, subst_out, choice_out}
+use Rattle.cb_amn_parse.specs.Machines.{literal_out, end_out, bound_out, bound_action, domain_out, subst_out, choice_out}
 use Rattle.cb_amn_print.specs.Tokens.{name_sort}
-use Rattle.cb_amn_print.specs.Machines.{IsFullSubst, AreFullSides, some}
-use Rattle.cb_amn_print.proofs.Scripts.{Piece, Silent, Kept, Done, nothing}
-use Rattle.cb_amn_print.proofs.Lines.{Good, join, sign_taken, word_taken, sign_kept, word_kept, number_kept, name_kept, act, by_line, by_table}
-use Rattle.cb_amn_print.proofs.Spelled.{Laws, Fine, AllFine, parted, term_good, formula_good, FormulaGood}
-use Rattle.cb_amn_print.proofs.MachinePieces.{word, mark, name, names_rest, names_script, literal_script, end_script, bound_script, domain_script, subst_script, sides_script}
+use Rattle.cb_amn_print.specs.Machines.{IsFullSubst, AreFullSides}
+use Rattle.cb_amn_print.proofs.Scripts.{Piece, Done, nothing}
+use Rattle.cb_amn_print.proofs.Lines.{Good, join, sign_taken, word_taken, word_kept, number_kept, name_kept, act, by_line, by_table}
+use Rattle.cb_amn_print.proofs.Spelled.{Laws, Fine, AllFine, parted, term_good, formula_good}
+use Rattle.cb_amn_print.proofs.MachinePieces.{word, name, names_rest, names_script, literal_script, end_script, bound_script, domain_script, subst_script, sides_script}
 
 pub record MoreLaws : Type 0 where
   pub laws : Laws

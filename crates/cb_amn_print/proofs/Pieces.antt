@@ -1,9 +1,8 @@
 -- Terms and formulas token by token: their text, and what is written for them.
 use Rattle.std.proofs.Common.{◌≡◌, ℕ, zero, suc, Bool, true, false, List, [], ◌∷◌, ◌++◌, refl, ap, sym, ◌∙◌, arith, append_assoc}
-use Rattle.std.specs.Prelude.{map, not, ◌==◌, if◌then◌else◌}
+use Rattle.std.specs.Prelude.{map, not, ◌==◌}
 use Rattle.std.proofs.lemmas.List.{append-nil, map-append}
 use Rattle.cb_lex.specs.declared.token.Place.{Place}
-use Rattle.cb_lex.specs.declared.token.Sort.{Sort}
 use Rattle.cb_lex.specs.declared.token.Sort.TheVariants as sort
 use Rattle.cb_lex.specs.declared.token.Keyword.TheVariants as keyword
 use Rattle.cb_lex.specs.declared.token.Sign.TheVariants as sign
@@ -21,7 +20,7 @@ use Rattle.cb_grammar.specs.declared.actions.TheConstants as action
 use Rattle.cb_amn_parse.specs.Lexemes.{Lexeme, Named, Said, Did, heard_at}
 use Rattle.cb_amn_parse.specs.Words.{atom_sort, atom_action, operator_sort, operator_action, relation_sort}
 use Rattle.cb_amn_parse.specs.Formulas.{term_out, listed_out, formula_out}
-use Rattle.cb_amn_print.specs.Tokens.{said, name_sort, name_text, wrapped, only_if}
+use Rattle.cb_amn_print.specs.Tokens.{said, name_sort, wrapped, only_if}
 use Rattle.cb_amn_print.specs.Formulas.{is_and, is_or, is_arrow, term_text, terms_text, formula_text}
 use Rattle.cb_amn_print.specs.Printed.{unplaced}
 use Rattle.cb_amn_print.proofs.Scripts.{Piece, Silent, Kept, Done, text_of, told_of, text-append, told-append}

@@ -1,22 +1,19 @@
 -- The tokens of a text may be printed, and so may what is written for them.
-use Rattle.std.proofs.Common.{◌≡◌, ℕ, zero, suc, ◌≤◌, ◌<◌, ◌+◌, Bool, true, false, List, [], ◌∷◌, ◌++◌, length, take, drop, refl, ap, sym, ◌∙◌, arith, cond, subst, eqb}
-use Rattle.std.specs.Prelude.{Option, Some, None, ℤ, pos, not, ◌&&◌, ◌||◌, nat_le, if◌then◌else◌, slice_get, Result, Ok, Err}
+use Rattle.std.proofs.Common.{◌≡◌, ℕ, zero, suc, ◌≤◌, ◌+◌, Bool, true, false, List, [], ◌∷◌, take, drop, refl, ap, ◌∙◌, arith, subst}
+use Rattle.std.specs.Prelude.{Option, Some, None, ◌&&◌, nat_le, if◌then◌else◌, Result, Ok, Err}
 use Rattle.std.specs.Char.{is_ascii_digit, is_ascii_alphabetic}
 use Rattle.cb_lex.specs.declared.token.Keyword.{Keyword}
-use Rattle.cb_lex.specs.declared.token.Keyword.TheVariants as keyword
 use Rattle.cb_lex.specs.declared.token.Sign.{Sign}
-use Rattle.cb_lex.specs.declared.token.Sort.{Sort}
-use Rattle.cb_lex.specs.declared.token.Sort.TheVariants as sort
 use Rattle.cb_lex.specs.declared.token.Place.{Place}
 use Rattle.cb_lex.specs.declared.token.Token.{Token}
 use Rattle.cb_lex.specs.declared.front.Front.{Front}
-use Rattle.cb_lex.specs.declared.front.Front.TheVariants.{Nothing, Gap, Makes, Bad, Long, Open}
+use Rattle.cb_lex.specs.declared.front.Front.TheVariants.{Gap, Makes}
 use Rattle.cb_lex.specs.declared.lexer.LexFault.{LexFault}
 use Rattle.cb_lex.specs.Spelling.{keyword_of, sign_at}
-use Rattle.cb_lex.specs.Lexis.{is_blank, is_word, run_length, starts, comment_from, opens as opens_comment, marks_number, may_open, number_of, value_from, plain_front, numbered_front, opened_front, word_front, number_front, digits_front, comment_front, sign_front, other_front, front}
+use Rattle.cb_lex.specs.Lexis.{is_blank, is_word, run_length, comment_from, opens as opens_comment, marks_number, may_open, number_of, value_from, plain_front, numbered_front, opened_front, word_front, number_front, digits_front, comment_front, sign_front, other_front, front}
 use Rattle.cb_lex.specs.Lexes.{Lexes, before}
 use Rattle.cb_lex.specs.Lexes.Lexes.{finish, gap, makes, bad_byte, long_number, open_comment}
-use Rattle.cb_amn_print.proofs.Fronts.{IsRead, IsToken, IsWord, all_in, both}
+use Rattle.cb_amn_print.proofs.Fronts.{IsToken, IsWord, all_in}
 use Rattle.cb_amn_print.proofs.Lines.{keyword_read}
 
 -- ---- what the lexer makes

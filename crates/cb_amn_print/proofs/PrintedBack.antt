@@ -1,5 +1,5 @@
 -- What is printed spells the value again.
-use Rattle.std.proofs.Common.{◌≡◌, ℕ, Bool, true, false, List, [], ◌∷◌, ◌++◌, refl, ap, sym, ◌∙◌, subst}
+use Rattle.std.proofs.Common.{◌≡◌, ℕ, Bool, true, false, List, [], ◌∷◌, ◌++◌, refl, sym, ◌∙◌, subst}
 use Rattle.std.specs.Prelude.{map, Ok, drop, ◌-◌}
 use Rattle.cb_written.specs.Texts.{OperationIsWritten}
 use Rattle.cb_amn_parse.specs.Machines.{machine_out}
@@ -7,9 +7,7 @@ use Rattle.cb_amn_print.specs.Machines.{machine_text, IsFull}
 use Rattle.cb_amn_print.proofs.WholePieces.{machine_script, machine-text, machine-told}
 use Rattle.cb_amn_print.proofs.MachineSpelled.{MoreLaws}
 use Rattle.cb_amn_print.proofs.WholeSpelled.{machine_good}
-use Rattle.cb_lex.specs.declared.token.Token.{Token}
 use Rattle.cb_lex.specs.Lexes.{Lexes, start}
-use Rattle.cb_engine.specs.declared.Symbol.TheVariants.{Part as part_symbol}
 use Rattle.cb_engine.specs.declared.Terminal.{Terminal}
 use Rattle.cb_engine.specs.Rules.{Spells}
 use Rattle.cb_grammar.specs.declared.parts.Part.{Part}
@@ -20,7 +18,7 @@ use Rattle.cb_amn_parse.specs.Lexemes.{Lexeme}
 use Rattle.cb_amn_parse.specs.Formulas.{formula_out, term_out}
 use Rattle.cb_amn_print.specs.Formulas.{formula_text, term_text}
 use Rattle.cb_amn_print.specs.Printed.{unplaced, SpellsBack, IsPrintedBack, IsFullPrintedBack}
-use Rattle.cb_amn_print.proofs.Scripts.{Piece, text_of, told_of, items, terms, cut_of}
+use Rattle.cb_amn_print.proofs.Scripts.{Piece, text_of, told_of, items, cut_of}
 use Rattle.cb_amn_print.proofs.Pieces.{formula_script, term_script, formula-text, term-text, formula-told, term-told}
 use Rattle.cb_amn_print.proofs.Lines.{Good}
 use Rattle.cb_amn_print.proofs.Spelled.{Laws, AllFine, formula_good, term_good}

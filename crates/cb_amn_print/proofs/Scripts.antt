@@ -1,18 +1,14 @@
 -- What is printed, token by token: which are kept, and what is done between them.
 use Rattle.std.proofs.Common.{◌≡◌, ℕ, zero, suc, ◌+◌, Bool, true, false, List, [], ◌∷◌, ◌++◌, length, take, drop, refl, ap, sym, ◌∙◌, arith, append_assoc}
-use Rattle.std.specs.Prelude.{Option, Some, None, map, slice_get, Result, Ok, codes}
-use Rattle.std.proofs.lemmas.List.{append-nil, length-append}
+use Rattle.std.specs.Prelude.{Option, Some, map, slice_get, Ok}
 use Rattle.cb_lex.specs.declared.token.Place.{Place}
 use Rattle.cb_lex.specs.declared.token.Token.{Token}
 use Rattle.cb_lex.specs.declared.token.Sort.{Sort}
 use Rattle.cb_lex.specs.declared.token.Sort.TheVariants as sort
-use Rattle.cb_lex.specs.declared.front.Front.TheVariants.{Nothing, Gap, Makes}
-use Rattle.cb_lex.specs.declared.lexer.LexFault.{LexFault}
-use Rattle.cb_lex.specs.Lexis.{front}
-use Rattle.cb_lex.specs.Lexes.{Lexes, moved, start, before}
+use Rattle.cb_lex.specs.Lexes.{Lexes, moved, start}
 use Rattle.cb_lex.specs.Lexes.Lexes.{finish, gap, makes}
 use Rattle.cb_engine.specs.declared.Symbol.{Symbol}
-use Rattle.cb_engine.specs.declared.Symbol.TheVariants.{Take, Keep, Act, Part, Gives, Then}
+use Rattle.cb_engine.specs.declared.Symbol.TheVariants.{Take, Keep, Act}
 use Rattle.cb_engine.specs.declared.Terminal.{Terminal}
 use Rattle.cb_engine.specs.declared.Item.{Item}
 use Rattle.cb_engine.specs.declared.Item.TheVariants.{Word, Do}
@@ -20,7 +16,7 @@ use Rattle.cb_engine.specs.Rules.{Rules, Runs, Spells, kept, admits}
 use Rattle.cb_engine.specs.Rules.Runs.{ends, takes, keeps, acts, keys, others, goes_on}
 use Rattle.cb_grammar.specs.Misreadings.{language}
 use Rattle.cb_grammar.specs.Terminals.{class_of, terminals, opens}
-use Rattle.cb_amn_parse.specs.Lexemes.{Lexeme, Named, Said, Did, Lost, heard_at, heard, lexeme, lexemes}
+use Rattle.cb_amn_parse.specs.Lexemes.{Lexeme, Did, heard_at, heard, lexemes}
 use Rattle.cb_amn_print.specs.Tokens.{sort_text, said}
 use Rattle.cb_amn_print.specs.Printed.{unplaced}
 use Rattle.cb_amn_print.proofs.Fronts.{IsRead, front_said, drop_of}

@@ -1,12 +1,11 @@
 -- The pieces of terms and formulas are spelled by the grammar.
-use Rattle.std.proofs.Common.{◌≡◌, ℕ, Bool, true, false, List, [], ◌∷◌, ◌++◌, refl, ap, sym, ◌∙◌, append_assoc, subst, inl, inr}
+use Rattle.std.proofs.Common.{◌≡◌, ℕ, Bool, true, false, List, [], ◌∷◌, ◌++◌, refl, sym, append_assoc, subst, inl, inr}
 use Rattle.std.specs.Prelude.{not}
 use Rattle.std.proofs.lemmas.List.{append-nil}
 use Rattle.cb_lex.specs.declared.token.Keyword.TheVariants as keyword
 use Rattle.cb_lex.specs.declared.token.Sign.{Sign}
 use Rattle.cb_lex.specs.declared.token.Sign.TheVariants as sign
 use Rattle.cb_lex.specs.declared.token.Sort.TheVariants as sort
-use Rattle.cb_lex.specs.declared.token.Place.{Place}
 use Rattle.cb_lex.specs.declared.raw.name.RawName.{RawName}
 use Rattle.cb_lex.specs.declared.raw.sign.RawAtom.{RawAtom}
 use Rattle.cb_lex.specs.declared.raw.sign.RawAtom.TheVariants as atom
@@ -17,14 +16,14 @@ use Rattle.cb_lex.specs.declared.raw.sign.RawRelation.TheVariants as relation
 use Rattle.cb_lex.specs.RawTermTree.{RawTermTree, RawTerms, RawFormulaTree}
 use Rattle.cb_lex.specs.RawTermTree as tree
 use Rattle.cb_engine.specs.declared.Symbol.{Symbol}
-use Rattle.cb_engine.specs.declared.Symbol.TheVariants.{Take, Keep, Act, Part, Then}
+use Rattle.cb_engine.specs.declared.Symbol.TheVariants.{Take, Keep, Act, Part}
 use Rattle.cb_engine.specs.Lines.{alternatives, Among, Repeated}
 use Rattle.cb_engine.specs.Lines.Repeated.{none, more}
 use Rattle.cb_grammar.specs.declared.table.TheConstants.{GRAMMAR}
 use Rattle.cb_grammar.specs.declared.actions.TheConstants as action
 use Rattle.cb_grammar.specs.Classes.{keyword_class, sign_class}
 use Rattle.cb_grammar.specs.Numbers as part
-use Rattle.cb_grammar.specs.Written.{LinesArePlain, FormulaIsWritten, FormulaLine, PartIsWritten, PartLine, TermIsWritten, TermLine, SumIsWritten, SumLine, ProductIsWritten, ProductLine, opening, closing, and_unit, or_unit, times_factor, divided_factor, mod_factor, plus_product, minus_product, to_sum, union_factor, intersection_factor}
+use Rattle.cb_grammar.specs.Written.{LinesArePlain, FormulaIsWritten, FormulaLine, PartIsWritten, PartLine, TermIsWritten, TermLine, SumIsWritten, SumLine, ProductIsWritten, ProductLine, opening, closing, and_unit, or_unit, times_factor, divided_factor, mod_factor, plus_product, minus_product}
 use Rattle.cb_grammar.specs.Written.FormulaLine.{plain as formula_line_plain, implication as formula_line_implication, equivalence as formula_line_equivalence}
 use Rattle.cb_grammar.specs.Written.PartLine.{unit as part_line_unit, conjunction as part_line_conjunction, disjunction as part_line_disjunction}
 use Rattle.cb_grammar.specs.Written.TermLine.{sum as term_line_sum, range as term_line_range, union as term_line_union, intersection as term_line_intersection}

@@ -1,6 +1,6 @@
 -- Machines token by token: their text, and what is written for them.
-use Rattle.std.proofs.Common.{◌≡◌, ℕ, zero, suc, ◌+◌, Bool, true, false, List, [], ◌∷◌, ◌++◌, refl, ap, sym, ◌∙◌, arith, append_assoc, length}
-use Rattle.std.specs.Prelude.{map, not, ◌==◌, if◌then◌else◌, Option, Some, None}
+use Rattle.std.proofs.Common.{◌≡◌, ℕ, Bool, true, false, List, [], ◌∷◌, ◌++◌, refl, ap, sym, ◌∙◌, arith, append_assoc, length}
+use Rattle.std.specs.Prelude.{◌==◌, Option, Some, None}
 use Rattle.std.specs.List.{flat_map}
 use Rattle.std.proofs.lemmas.List.{append-nil, map-append}
 use Rattle.cb_lex.specs.declared.token.Sort.TheVariants as sort
@@ -16,14 +16,13 @@ use Rattle.cb_lex.specs.declared.raw.text.RawOperation.{RawOperation}
 use Rattle.cb_lex.specs.RawTermTree.{RawFormulaTree}
 use Rattle.cb_lex.specs.RawSubstTree.{RawSubstTree}
 use Rattle.cb_grammar.specs.declared.actions.TheConstants as action
-use Rattle.cb_amn_parse.specs.Lexemes.{Lexeme, Named, Said, Did}
+use Rattle.cb_amn_parse.specs.Lexemes.{Lexeme, Named, Did}
 use Rattle.cb_amn_parse.specs.Formulas.{formula_out, names_out, condition_out}
-use Rattle.cb_amn_parse.specs.Machines.{literal_out, subst_out, set_entry, sets_out, property_entry, properties_out, state_out, operation_entry, operations_out, machine_out}
-use Rattle.cb_amn_print.specs.Tokens.{said, name_sort, name_text, only_if}
-use Rattle.cb_amn_print.specs.Formulas.{formula_text}
-use Rattle.cb_amn_print.specs.Machines.{some, names_text, literal_text, subst_text, set_text, sets_text, property_text, properties_text, state_text, body_text, operation_text, operations_text, part_text, head_text, machine_text}
+use Rattle.cb_amn_parse.specs.Machines.{subst_out, set_entry, sets_out, property_entry, properties_out, state_out, operation_entry, operations_out, machine_out}
+use Rattle.cb_amn_print.specs.Tokens.{said, only_if}
+use Rattle.cb_amn_print.specs.Machines.{some, names_text, set_text, sets_text, property_text, properties_text, state_text, body_text, operation_text, operations_text, part_text, machine_text}
 use Rattle.cb_amn_print.specs.Printed.{unplaced}
-use Rattle.cb_amn_print.proofs.Scripts.{Piece, Silent, Kept, Done, text_of, told_of, text-append, told-append, text-both, told-both}
+use Rattle.cb_amn_print.proofs.Scripts.{Piece, Done, text_of, told_of, text-append, told-append, text-both}
 use Rattle.cb_amn_print.proofs.Pieces.{open_piece, close_piece, formula_script, formula-text, formula-told, told-name, bare}
 use Rattle.cb_amn_print.proofs.MachinePieces.{word, mark, name, names_script, names-text, names-told, literal_script, literal-text, literal-told, subst_script, subst-text, subst-told}
 

@@ -1,8 +1,7 @@
 -- The pieces of a machine are spelled by the grammar.
-use Rattle.std.proofs.Common.{◌≡◌, ℕ, Bool, true, false, List, [], ◌∷◌, ◌++◌, refl, ap, sym, ◌∙◌, append_assoc, subst, inl, inr}
+use Rattle.std.proofs.Common.{◌≡◌, ℕ, Bool, true, List, [], ◌∷◌, ◌++◌, refl, sym, ◌∙◌, append_assoc, subst, inl, inr}
 use Rattle.std.specs.Prelude.{Option, Some, None}
 use Rattle.std.specs.List.{flat_map}
-use Rattle.cb_lex.specs.declared.token.Keyword.{Keyword}
 use Rattle.cb_lex.specs.declared.token.Keyword.TheVariants as keyword
 use Rattle.cb_lex.specs.declared.token.Sign.TheVariants as sign
 use Rattle.cb_lex.specs.declared.raw.name.RawName.{RawName}
@@ -22,14 +21,14 @@ use Rattle.cb_grammar.specs.Classes.{keyword_class, sign_class}
 use Rattle.cb_grammar.specs.Numbers as part
 use Rattle.cb_written.specs.Texts.{OperationIsWritten, OperationLine, results, parameters, bodies}
 use Rattle.cb_written.specs.Texts.OperationLine.{operation}
-use Rattle.cb_amn_parse.specs.Lexemes.{Lexeme, Named, Said, Did}
+use Rattle.cb_amn_parse.specs.Lexemes.{Named, Did}
 use Rattle.cb_amn_parse.specs.Formulas.{formula_out, names_out, condition_out}
 use Rattle.cb_amn_parse.specs.Machines.{literal_out, subst_out, set_entry, sets_out, property_entry, properties_out, state_out, operation_entry, operations_out, machine_out}
 use Rattle.cb_amn_print.specs.Machines.{some, IsFullSubst, AllOf, IsFullState, IsFull}
-use Rattle.cb_amn_print.proofs.Scripts.{Piece, Silent, Kept, Done}
-use Rattle.cb_amn_print.proofs.Lines.{Good, join, sign_taken, word_taken, act, by_line, by_table, is_proof}
+use Rattle.cb_amn_print.proofs.Scripts.{Piece, Done}
+use Rattle.cb_amn_print.proofs.Lines.{Good, join, sign_taken, word_taken, act, by_line, by_table}
 use Rattle.cb_amn_print.proofs.Spelled.{AllFine, parted, formula_good}
-use Rattle.cb_amn_print.proofs.MachinePieces.{word, mark, name, names_script, subst_script, literal_script}
+use Rattle.cb_amn_print.proofs.MachinePieces.{word, names_script}
 use Rattle.cb_amn_print.proofs.WholePieces.{some_entry, named_part, set_script, sets_rest, sets_script, property_script, properties_rest, properties_script, state_script, results_script, parameters_script, body_script, operation_script, operations_rest, operations_script, machine_script}
 use Rattle.cb_amn_print.proofs.MachineSpelled.{MoreLaws, empty, name_good, names_good, literal_good, subst_part, subst_good}
 
@@ -164,9 +163,14 @@ module _ (opened : Bool) (m : MoreLaws) (operation_law : OperationIsWritten) whe
   body_good : (c : Option RawFormulaTree) (s : RawSubstTree) → IsFullSubst s → AllFine opened (condition_out c) → AllFine opened (subst_out s) → OneOfThese bodies (body_script c s)
   body_good None s u f h = (_, (inr (inl refl), join opened (act opened action.NO_CONDITION) (subst_part opened m s (subst_good opened m s u h))))
   body_good (Some c) s u f h =
-      let a = formula_good opened m.laws c (parted opened (formula_out c) (Did action.SOME_CONDITION ∷ []) f).0 in
-      (_, (inl refl, join opened (word_taken opened keyword.Pre refl) (join opened a.formula (join opened (act opened action.SOME_CONDITION) (join opened (word_taken opened keyword.Then refl)
-      (join opened (subst_part opened m s (subst_good opened m s u h)) (word_taken opened keyword.End refl)))))))
+      let a = formula_good opened m.laws c (parted opened (formula_out c) (Did action.SOME_CONDITION ∷ []) f).0 in (
+        _,
+        (
+          inl refl,
+          join opened (word_taken opened keyword.Pre refl) (join opened a.formula (join opened (act opened action.SOME_CONDITION) (join opened (word_taken opened keyword.Then refl)
+              (join opened (subst_part opened m s (subst_good opened m s u h)) (word_taken opened keyword.End refl))))),
+        ),
+      )
 
   operation_good : (o : RawOperation) → IsFullSubst o.body → AllFine opened (operation_entry o) → G (Part part.operation ∷ []) (operation_script o)
   operation_good o u f =
@@ -203,7 +207,7 @@ module _ (opened : Bool) (m : MoreLaws) (operation_law : OperationIsWritten) whe
       let ended : List Piece = state_script x.state ++ (Done action.NO_OPERATIONS ∷ (operations_script x.operations ++ (word keyword.End ∷ (Done action.MACHINE ∷ [])))) in
       let tail = join opened (state_good x.state u.state f4.1) (join opened (act opened action.NO_OPERATIONS) (join opened (operations_good x.operations u.operations f5.1.1) (join opened (word_taken opened keyword.End refl) (act opened action.MACHINE)))) in
       let rest : G (Part part.constants ∷ (Part part.state ∷ (Act action.NO_OPERATIONS ∷ (Part part.machine_5 ∷ (Take (keyword_class keyword.End) ∷ (Act action.MACHINE ∷ [])))))) (named_part keyword.Constants x.constants ++ (properties_script x.properties ++ ended)) =
-          subst (λ (p : List Piece). G (Part part.constants ∷ (Part part.state ∷ (Act action.NO_OPERATIONS ∷ (Part part.machine_5 ∷ (Take (keyword_class keyword.End) ∷ (Act action.MACHINE ∷ [])))))) p) (append_assoc (named_part keyword.Constants x.constants) (properties_script x.properties) ended)
-          (join opened (constants_good x.constants x.properties u.constants f2.1 f3.1) tail) in
+      subst (λ (p : List Piece). G (Part part.constants ∷ (Part part.state ∷ (Act action.NO_OPERATIONS ∷ (Part part.machine_5 ∷ (Take (keyword_class keyword.End) ∷ (Act action.MACHINE ∷ [])))))) p) (append_assoc (named_part keyword.Constants x.constants) (properties_script x.properties) ended)
+      (join opened (constants_good x.constants x.properties u.constants f2.1 f3.1) tail) in
       table part.machine _ machine_lines _ _ (inl refl) (join opened (word_taken opened keyword.Machine refl) (join opened (name_good opened m x.name f1.0.0) (join opened (sees_good x.sees f1.0.1)
       (join opened (act opened action.NO_SETS) (join opened (sets_good x.sets u.sets f1.1.1) rest)))))

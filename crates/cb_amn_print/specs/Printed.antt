@@ -2,7 +2,6 @@
 use Rattle.std.specs.Prelude.{◌≡◌, ℕ, Bool, List, [], ◌∷◌, ◌++◌, map, Ok}
 use Rattle.cb_lex.specs.declared.token.Token.{Token}
 use Rattle.cb_lex.specs.declared.token.Sort.TheVariants as sort
-use Rattle.cb_lex.specs.declared.raw.name.RawName.{RawName}
 use Rattle.cb_lex.specs.Lexes.{Lexes, start}
 use Rattle.cb_engine.specs.declared.Item.{Item}
 use Rattle.cb_engine.specs.Rules.{Spells}

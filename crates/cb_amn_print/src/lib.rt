@@ -10,8 +10,8 @@ mod tokens;
 
 pub use formulas::{print_formula, print_term, put_formula, put_term};
 pub use machines::print_machine;
-pub use substitutions::{put_domain, put_subst};
 use std::alloc::AllocError;
+pub use substitutions::{put_domain, put_subst};
 
 /// Want of memory.
 pub type Memory = AllocError;

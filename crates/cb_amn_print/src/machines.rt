@@ -77,14 +77,22 @@ fn put_set(alloc: Global, out: &mut Vec<u8>, set: &RawSet) -> Result<(), Memory>
     put(out, b"} ")
 }
 
-fn put_properties(alloc: Global, out: &mut Vec<u8>, properties: &[RawProperty]) -> Result<(), Memory>
+fn put_properties(
+    alloc: Global,
+    out: &mut Vec<u8>,
+    properties: &[RawProperty],
+) -> Result<(), Memory>
     ensures { OnOk result (out.new.items ≡ out.old.items ++ text.part_text (codes "PROPERTIES ") text.properties_text properties.now) }
 {
     put_if(out, !properties.is_empty(), b"PROPERTIES ")?;
     put_each_property(alloc, out, properties)
 }
 
-fn put_each_property(alloc: Global, out: &mut Vec<u8>, properties: &[RawProperty]) -> Result<(), Memory>
+fn put_each_property(
+    alloc: Global,
+    out: &mut Vec<u8>,
+    properties: &[RawProperty],
+) -> Result<(), Memory>
     ensures { OnOk result (out.new.items ≡ out.old.items ++ text.properties_text true properties.now) }
 {
     let mut first = true;
@@ -133,14 +141,22 @@ fn put_state(alloc: Global, out: &mut Vec<u8>, state: &Option<RawState>) -> Resu
     }
 }
 
-fn put_operations(alloc: Global, out: &mut Vec<u8>, operations: &[RawOperation]) -> Result<(), Memory>
+fn put_operations(
+    alloc: Global,
+    out: &mut Vec<u8>,
+    operations: &[RawOperation],
+) -> Result<(), Memory>
     ensures { OnOk result (out.new.items ≡ out.old.items ++ text.part_text (codes "OPERATIONS ") text.operations_text operations.now) }
 {
     put_if(out, !operations.is_empty(), b"OPERATIONS ")?;
     put_each_operation(alloc, out, operations)
 }
 
-fn put_each_operation(alloc: Global, out: &mut Vec<u8>, operations: &[RawOperation]) -> Result<(), Memory>
+fn put_each_operation(
+    alloc: Global,
+    out: &mut Vec<u8>,
+    operations: &[RawOperation],
+) -> Result<(), Memory>
     ensures { OnOk result (out.new.items ≡ out.old.items ++ text.operations_text true operations.now) }
 {
     let mut first = true;
@@ -176,6 +192,52 @@ fn put_body(alloc: Global, out: &mut Vec<u8>, operation: &RawOperation) -> Resul
             put(out, b"THEN ")?;
             put_subst(alloc, out, false, &operation.body)?;
             put(out, b"END ")
+        }
+    }
+}
+
+#[cfg(test)]
+mod tests {
+    use super::*;
+    use cb_amn_parse::machine;
+    use cb_grammar::SyntaxFault;
+    use cb_lex::lexer::{LONGEST_TEXT, tokens};
+    use std::process::Abort;
+
+    const BOX: &str =
+        "MACHINE Box VARIABLES n INVARIANT n : 0..9 INITIALISATION n := 0 OPERATIONS add(k) = PRE k : 1..9 & n + k <= 9 THEN n := n + k END; r <-- take = PRE n > 0 THEN r := n || n := 0 END END";
+
+    const PRINTED: &str =
+        "MACHINE Box VARIABLES n INVARIANT n : 0 .. 9 INITIALISATION n := 0 OPERATIONS add ( k ) = PRE k : 1 .. 9 & n + k <= 9 THEN n := n + k END ; r <-- take = PRE n > 0 THEN r := n || n := 0 END END ";
+
+    // what is printed of the machine of the text
+    fn printed(rt: &impl Abort, alloc: Global, text: &str) -> Result<Vec<u8>, SyntaxFault> {
+        assert!(rt; text.len() <= LONGEST_TEXT);
+        match tokens(alloc, text.as_bytes()) {
+            Ok(tokens) => {
+                assert!(rt; !tokens.is_empty());
+                let (raw, _) = machine(alloc, &tokens, 0)?;
+                Ok(print_machine(alloc, &raw)?)
+            }
+            Err(_) => Err(SyntaxFault::Memory),
+        }
+    }
+
+    #[test]
+    fn prints_box(rt: HostRuntime) {
+        let text = printed(&rt, rt.alloc(), BOX);
+        assert!(rt; text.is_ok());
+        if let Ok(text) = text {
+            assert_eq!(rt; text.as_slice(), PRINTED.as_bytes());
+        }
+    }
+
+    #[test]
+    fn prints_the_printed_box(rt: HostRuntime) {
+        let text = printed(&rt, rt.alloc(), PRINTED);
+        assert!(rt; text.is_ok());
+        if let Ok(text) = text {
+            assert_eq!(rt; text.as_slice(), PRINTED.as_bytes());
         }
     }
 }
