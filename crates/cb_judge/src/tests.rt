@@ -30,7 +30,7 @@ fn name(alloc: Global, col: u32) -> Result<RawName, AllocError> {
 fn set_to_true(alloc: Global, col: u32) -> Result<RawSubst, AllocError> {
     let node = RawTermNode::Atom {
         atom: RawAtom::True,
-        place: at(col + 5),
+        place: at(col),
     };
     let target = name(alloc, col)?;
     Ok(RawSubst {
