@@ -1,0 +1,29 @@
+-- Names in a list of names with what they stand for, and numbers in a list of numbers.
+use Rattle.std.specs.Prelude.{ℕ, nat_eq, List, [], ◌∷◌, ◌++◌, Bool, Option, Some, None, if◌then◌else◌, bytes_eq, is_some}
+use Rattle.std.specs.List.{list_any}
+
+module _ {M : Type 0} where
+  -- what the first of the name stands for
+  abbrev pub found : List ℕ → List (List ℕ × M) → Option M
+  found x [] = None
+  found x (e ∷ es) = if bytes_eq x e.0 then Some e.1 else found x es
+
+  -- with the name, where it is not there already
+  abbrev pub inside : List ℕ → M → List (List ℕ × M) → List (List ℕ × M)
+  inside x m es = if is_some (found x es) then es else es ++ (x, m) ∷ []
+
+  -- with the name, which stands for this even where it is there already
+  abbrev pub put : List ℕ → M → List (List ℕ × M) → List (List ℕ × M)
+  put x m [] = (x, m) ∷ []
+  put x m (e ∷ es) = if bytes_eq x e.0 then (e.0, m) ∷ es else e ∷ put x m es
+
+  -- with the names that both of the others have
+  abbrev pub with_common : List (List ℕ × M) → List (List ℕ × M) → List (List ℕ × M) → List (List ℕ × M)
+  with_common es [] bs = es
+  with_common es (a ∷ rest) bs = with_common (if is_some (found a.0 bs) then inside a.0 a.1 es else es) rest bs
+
+abbrev pub is_in : ℕ → List ℕ → Bool
+is_in k ks = list_any (nat_eq k) ks
+
+abbrev pub with_number : ℕ → List ℕ → List ℕ
+with_number k ks = if is_in k ks then ks else ks ++ k ∷ []

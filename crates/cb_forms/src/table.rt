@@ -1,0 +1,95 @@
+//! Tables of names.
+
+ghost use Rattle.std.specs.Prelude.{◌≡◌, [], OnOk, take, length};
+ghost use Rattle.cb_forms.specs.Find.{found, inside, put, with_common};
+
+use cb_lex::Memory;
+use indexmap::IndexMap;
+use std::alloc::Global;
+use std::marker::Model;
+
+/// Names with what they stand for, in the order in which they came. Contracts see a list of pairs.
+#[derive(Drop)]
+pub struct Table<M: Copy + Drop> {
+    names: IndexMap<Vec<u8>, M>,
+}
+
+impl<M: Copy + Drop> Model for Table<M> {
+    ghost use Rattle.std.specs.Prelude.{List, ℕ};
+
+    ghost Value = { List (List ℕ × M) };
+
+    ghost use Rattle.cb_forms.specs.View.{entries_of};
+
+    ghost view = { λ t. entries_of t.names.entries };
+}
+
+impl<M: Copy + Drop> Table<M> {
+    /// The table without names.
+    pub fn new(alloc: Global) -> Table<M>
+        ensures { result ≡ [] }
+    {
+        Table {
+            names: IndexMap::new(alloc),
+        }
+    }
+
+    /// The number of names.
+    pub fn len(&self) -> usize
+        ensures { result ≡ length self.now }
+    {
+        self.names.len()
+    }
+
+    /// What the name stands for.
+    pub fn find(&self, name: &[u8]) -> Option<M>
+        ensures { result ≡ found name.now self.now }
+    {
+        self.names.get(name).copied()
+    }
+
+    /// Adds the name, but keeps a name that is there.
+    pub fn enter(&mut self, alloc: Global, name: &[u8], meaning: M) -> Result<(), Memory>
+        ensures { OnOk result (self.new ≡ inside name.now meaning self.old) }
+    {
+        if self.find(name).is_some() {
+            return Ok(());
+        }
+        let key = Vec::from_slice(alloc, name)?;
+        self.names.insert(key, meaning)?;
+        Ok(())
+    }
+
+    /// Adds the name, which stands for this even where it is there already.
+    pub fn put(&mut self, alloc: Global, name: &[u8], meaning: M) -> Result<(), Memory>
+        ensures { OnOk result (self.new ≡ put name.now meaning self.old) }
+    {
+        let key = Vec::from_slice(alloc, name)?;
+        self.names.insert(key, meaning)?;
+        Ok(())
+    }
+
+    /// Adds the names that both of the others have, with what the first says of them.
+    pub fn add_common(
+        &mut self,
+        alloc: Global,
+        first: &Table<M>,
+        second: &Table<M>,
+    ) -> Result<(), Memory>
+        ensures { OnOk result (self.new ≡ with_common self.old first.now second.now) }
+    {
+        for (name, meaning) in first.names.iter() {
+            if second.find(name.as_slice()).is_some() {
+                self.enter(alloc, name.as_slice(), *meaning)?;
+            }
+        }
+        Ok(())
+    }
+
+    /// Leaves out the names after the first ones.
+    pub fn leave(&mut self, len: usize)
+        ensures { self.new ≡ take len self.old }
+    {
+        self.names.truncate(len);
+    }
+}
