@@ -1,5 +1,5 @@
 -- A number that stays in the bounds after the cut was not cut.
-use Rattle.std.proofs.Common.{◌≡◌, ℕ, ◌^◌, suc, ℤ, pos, negsuc, Bool, true, false, cond, nat_le, refl, sym, ◌∙◌, true≢false}
+use Rattle.std.proofs.Common.{◌≡◌, ◌^◌, suc, ℤ, pos, negsuc, Bool, true, false, nat_le, refl, true≢false}
 use Rattle.cb_forms.specs.Spans.{cut, is_above, is_below}
 
 pub cut_exact : (z : ℤ) → is_above (cut z) ≡ false → is_below (cut z) ≡ false → cut z ≡ z

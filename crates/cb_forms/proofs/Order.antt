@@ -1,8 +1,8 @@
 -- The order of faults.
-use Rattle.std.proofs.Common.{◌≡◌, ℕ, Bool, true, false, ◌⊎◌, inl, inr, Option, Some, None, arith, refl, sym, subst, ap, cond, ◌∙◌}
+use Rattle.std.proofs.Common.{◌≡◌, Bool, true, false, ◌⊎◌, inl, inr, Option, Some, None, arith, refl, sym, subst, cond, ◌∙◌}
 use Rattle.std.proofs.lemmas.Bool.Decides.{nat_tests}
 use Rattle.cb_forms.specs.declared.fault.Fault.{Fault}
-use Rattle.cb_forms.specs.Faults.{before, least, Faults, Nowhere, At, Both, first, Occurs, Least, IsFirst}
+use Rattle.cb_forms.specs.Faults.{before, least, Faults, Nowhere, At, Both, first, Occurs, IsFirst}
 
 -- h isn't before a, and b is: so h isn't before b
 before_left : (h b a : Fault) → before h a ≡ false → before b a ≡ true → before h b ≡ false

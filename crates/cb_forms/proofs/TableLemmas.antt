@@ -1,9 +1,9 @@
 -- The names of a map, seen as a list.
-use Rattle.std.proofs.Common.{◌≡◌, ℕ, Bool, true, false, cond, List, [], ◌∷◌, ◌++◌, Option, Some, None, Vec, bytes_eq, refl, sym, ap, ◌∙◌, is_some, true≢false}
+use Rattle.std.proofs.Common.{◌≡◌, ℕ, Bool, true, false, cond, List, [], ◌∷◌, ◌++◌, Some, None, Vec, bytes_eq, refl, ap, ◌∙◌, is_some, true≢false, ◌+◌, suc, zero, drop, slice_get, option_map, arith}
 use Rattle.std.specs.declared.alloc.Global.{Global}
 use Rattle.std.specs.Map.{lookup}
 use Rattle.indexmap.specs.IndexMap.{insert_entry}
-use Rattle.cb_forms.specs.Find.{found, inside, put}
+use Rattle.cb_forms.specs.Find.{found, inside, put, with_common, name_in}
 use Rattle.cb_forms.specs.View.{entries_of}
 
 module _ {M : Type 0} where
@@ -32,3 +32,21 @@ module _ {M : Type 0} where
           entries_of (insert_entry (λ a b. bytes_eq a.items b.items) (f ∷ es) k m) ≡ put x m (entries_of (f ∷ es))
       by true p rest = let q : bytes_eq k.items f.0.items ≡ true = ap (λ y. bytes_eq y f.0.items) e ∙ p in rw (p, q) refl
       by false p rest = let q : bytes_eq k.items f.0.items ≡ false = ap (λ y. bytes_eq y f.0.items) e ∙ p in rw (p, q) (ap (λ r. (f.0.items, f.1) ∷ r) rest)
+
+  pub name_view : (es : List (Vec ℕ Global × M)) (i : ℕ) → option_map (λ e. e.0.items) (slice_get es i) ≡ name_in (entries_of es) i
+  name_view [] i = refl
+  name_view (e ∷ es) zero = refl
+  name_view (e ∷ es) (suc i) = name_view es i
+
+  pub common_next : (m : M) (w ys bs : List (List ℕ × M)) (i : ℕ) (x : List ℕ) → name_in ys i ≡ Some x →
+      with_common m w (drop i ys) bs ≡ with_common m (cond (is_some (found x bs)) (inside x m w) w) (drop (i + 1) ys) bs
+  common_next m w [] bs i x e = cc
+  common_next m w (a ∷ ys) bs zero x e = let q : a.0 ≡ x = cc in rw (← q) refl
+  common_next m w (a ∷ ys) bs (suc i) x e = let q : suc i + 1 ≡ suc (i + 1) = omega arith in rw q (common_next m w ys bs i x e)
+
+  pub common_past : (m : M) (w ys bs : List (List ℕ × M)) (i : ℕ) → name_in ys i ≡ None →
+      with_common m w (drop i ys) bs ≡ with_common m w (drop (i + 1) ys) bs
+  common_past m w [] bs zero e = refl
+  common_past m w [] bs (suc i) e = let q : suc i + 1 ≡ suc (i + 1) = omega arith in rw q refl
+  common_past m w (a ∷ ys) bs zero e = cc
+  common_past m w (a ∷ ys) bs (suc i) e = let q : suc i + 1 ≡ suc (i + 1) = omega arith in rw q (common_past m w ys bs i e)

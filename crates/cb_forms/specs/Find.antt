@@ -1,5 +1,5 @@
 -- Names in a list of names with what they stand for, and numbers in a list of numbers.
-use Rattle.std.specs.Prelude.{ℕ, nat_eq, List, [], ◌∷◌, ◌++◌, Bool, Option, Some, None, if◌then◌else◌, bytes_eq, is_some}
+use Rattle.std.specs.Prelude.{ℕ, nat_eq, List, [], ◌∷◌, ◌++◌, Bool, Option, Some, None, if◌then◌else◌, bytes_eq, is_some, option_map, slice_get}
 use Rattle.std.specs.List.{list_any}
 
 module _ {M : Type 0} where
@@ -17,10 +17,14 @@ module _ {M : Type 0} where
   put x m [] = (x, m) ∷ []
   put x m (e ∷ es) = if bytes_eq x e.0 then (e.0, m) ∷ es else e ∷ put x m es
 
-  -- with the names that both of the others have
-  abbrev pub with_common : List (List ℕ × M) → List (List ℕ × M) → List (List ℕ × M) → List (List ℕ × M)
-  with_common es [] bs = es
-  with_common es (a ∷ rest) bs = with_common (if is_some (found a.0 bs) then inside a.0 a.1 es else es) rest bs
+  -- with the names that both of the others have, which stand for this where they are not there already
+  abbrev pub with_common : M → List (List ℕ × M) → List (List ℕ × M) → List (List ℕ × M) → List (List ℕ × M)
+  with_common m es [] bs = es
+  with_common m es (a ∷ rest) bs = with_common m (if is_some (found a.0 bs) then inside a.0 m es else es) rest bs
+
+  -- the name at the index
+  abbrev pub name_in : List (List ℕ × M) → ℕ → Option (List ℕ)
+  name_in es i = option_map (λ e. e.0) (slice_get es i)
 
 abbrev pub is_in : ℕ → List ℕ → Bool
 is_in k ks = list_any (nat_eq k) ks

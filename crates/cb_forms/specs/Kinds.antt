@@ -1,5 +1,5 @@
 -- Kinds and intervals of terms as they are written. `None` is the kind of a term that does not tell it: such a term suits everything.
-use Rattle.std.specs.Prelude.{ℕ, ℤ, pos, Bool, true, false, not, ◌&&◌, ◌||◌, int_lt, Option, Some, None, if◌then◌else◌}
+use Rattle.std.specs.Prelude.{ℤ, pos, Bool, true, false, not, ◌&&◌, ◌||◌, int_lt, Option, Some, None, if◌then◌else◌}
 use Rattle.cb_lex.specs.declared.token.Place.{Place}
 use Rattle.cb_lex.specs.declared.raw.sign.RawOperator.{RawOperator}
 use Rattle.cb_lex.specs.declared.raw.sign.RawOperator.TheVariants.{Plus, Minus, Times, Divide, Mod, UpTo, Union, Intersection}
@@ -11,7 +11,7 @@ use Rattle.cb_forms.specs.declared.span.Span.{Span}
 use Rattle.cb_forms.specs.declared.form.Form.{Form as Known}
 use Rattle.cb_forms.specs.declared.form.Form.TheVariants as known
 use Rattle.cb_forms.specs.Faults.{Faults, Nowhere, Both, fault_if}
-use Rattle.cb_forms.specs.Spans.{leaves, added, taken, negated, scaled, divided, rest_of, has_more}
+use Rattle.cb_forms.specs.Spans.{leaves, added, taken, scaled, divided, rest_of, has_more}
 
 -- what is kept of a form, as a form
 abbrev pub form_of : Known → Form

@@ -1,5 +1,5 @@
 -- Intervals of whole numbers of any size.
-use Rattle.std.specs.Prelude.{ℕ, ℤ, pos, negsuc, ◌+ℤ◌, ◌-ℤ◌, ◌*ℤ◌, neg_ℤ, ◌^◌, suc, ◌-◌, Bool, ◌||◌, nat_le, int_lt, int_le, if◌then◌else◌, false, ◌≡◌}
+use Rattle.std.specs.Prelude.{ℤ, pos, negsuc, ◌+ℤ◌, ◌-ℤ◌, ◌*ℤ◌, neg_ℤ, ◌^◌, suc, Bool, ◌||◌, nat_le, int_lt, int_le, if◌then◌else◌, false, ◌≡◌}
 use Rattle.std.specs.Int.{int_min, int_max, int_div_euclid}
 use Rattle.cb_forms.specs.declared.span.Span.{Span}
 

@@ -8,3 +8,5 @@ pub mod owners;
 pub mod signs;
 pub mod span;
 pub mod table;
+#[cfg(test)]
+mod tests;

@@ -1,7 +1,7 @@
 //! Tables of names.
 
-ghost use Rattle.std.specs.Prelude.{◌≡◌, [], OnOk, take, length};
-ghost use Rattle.cb_forms.specs.Find.{found, inside, put, with_common};
+ghost use Rattle.std.specs.Prelude.{◌≡◌, [], OnOk, take, length, option_copied};
+ghost use Rattle.cb_forms.specs.Find.{found, inside, put, with_common, name_in};
 
 use cb_lex::Memory;
 use indexmap::IndexMap;
@@ -69,18 +69,31 @@ impl<M: Copy + Drop> Table<M> {
         Ok(())
     }
 
-    /// Adds the names that both of the others have, with what the first says of them.
+    // The name at the index.
+    fn name_at(&self, index: usize) -> Option<&[u8]>
+        ensures { option_copied result ≡ name_in self.now index }
+    {
+        match self.names.get_index(index) {
+            Some((name, _)) => Some(name.as_slice()),
+            None => None,
+        }
+    }
+
+    /// Adds the names that both of the others have. They stand for this where they are not there already.
     pub fn add_common(
         &mut self,
         alloc: Global,
         first: &Table<M>,
         second: &Table<M>,
+        meaning: M,
     ) -> Result<(), Memory>
-        ensures { OnOk result (self.new ≡ with_common self.old first.now second.now) }
+        ensures { OnOk result (self.new ≡ with_common meaning self.old first.now second.now) }
     {
-        for (name, meaning) in first.names.iter() {
-            if second.find(name.as_slice()).is_some() {
-                self.enter(alloc, name.as_slice(), *meaning)?;
+        for i in 0..first.len() {
+            if let Some(name) = first.name_at(i) {
+                if second.find(name).is_some() {
+                    self.enter(alloc, name, meaning)?;
+                }
             }
         }
         Ok(())

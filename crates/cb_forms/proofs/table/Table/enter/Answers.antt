@@ -1,5 +1,5 @@
-use Rattle.std.proofs.Common.{◌≡◌, ◌∙◌, Bool, false, cond, is_some, ap, sym, [], ◌∷◌, ◌++◌}
-use Rattle.cb_forms.specs.Find.{found, inside}
+use Rattle.std.proofs.Common.{◌≡◌, ◌∙◌, false, cond, is_some, ap, sym, [], ◌∷◌, ◌++◌}
+use Rattle.cb_forms.specs.Find.{found}
 use Rattle.cb_forms.specs.View.{entries_of}
 use Rattle.cb_forms.proofs.TableLemmas.{insert_view}
 use Rattle.cb_forms.proofs.table.Table.enter.Goals as goal

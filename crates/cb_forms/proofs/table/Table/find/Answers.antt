@@ -1,4 +1,4 @@
-use Rattle.std.proofs.Common.{◌≡◌, ◌∙◌, ap}
+use Rattle.std.proofs.Common.{◌∙◌, ap}
 use Rattle.cb_forms.proofs.TableLemmas.{found_view}
 use Rattle.cb_forms.specs.Find.{found}
 use Rattle.cb_forms.proofs.table.Table.find.Goals as goal

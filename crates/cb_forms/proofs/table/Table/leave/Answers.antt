@@ -1,4 +1,4 @@
-use Rattle.std.proofs.Common.{◌≡◌, ◌∙◌, ap, sym, take}
+use Rattle.std.proofs.Common.{◌∙◌, ap, sym, take}
 use Rattle.std.proofs.lemmas.List.{take-map}
 use Rattle.cb_forms.specs.View.{entries_of}
 use Rattle.cb_forms.proofs.table.Table.leave.Goals as goal

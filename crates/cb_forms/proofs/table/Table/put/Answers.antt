@@ -1,4 +1,4 @@
-use Rattle.std.proofs.Common.{◌≡◌, ◌∙◌, ap}
+use Rattle.std.proofs.Common.{◌∙◌, ap}
 use Rattle.cb_forms.specs.Find.{put}
 use Rattle.cb_forms.specs.View.{entries_of}
 use Rattle.cb_forms.proofs.TableLemmas.{put_view}
