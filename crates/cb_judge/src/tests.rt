@@ -1,0 +1,105 @@
+use crate::judge::judge_term;
+use crate::names::{Entry, Meaning, View};
+use crate::writes::{add_shared, not_written};
+use cb_forms::fault::when;
+use cb_forms::form::Form;
+use cb_forms::owners::Owners;
+use cb_forms::span::Span;
+use cb_forms::table::Table;
+use cb_lex::bytes::Bytes;
+use cb_lex::raw::name::RawName;
+use cb_lex::raw::sign::{RawAtom, RawOperator};
+use cb_lex::raw::subst::{RawSubst, RawSubstNode};
+use cb_lex::raw::term::{RawTerm, RawTermNode};
+use cb_lex::token::Place;
+use std::alloc::{AllocError, Global};
+use std::test::Fail;
+
+fn at(col: u32) -> Place {
+    Place { line: 1, col }
+}
+
+fn name(alloc: Global, col: u32) -> Result<RawName, AllocError> {
+    let text = Bytes::from_slice(alloc, b"n")?;
+    Ok(RawName {
+        text,
+        number: 0,
+        place: at(col),
+    })
+}
+
+fn set_to_true(alloc: Global, col: u32) -> Result<RawSubst, AllocError> {
+    let node = RawTermNode::Atom {
+        atom: RawAtom::True,
+        place: at(col + 5),
+    };
+    let target = name(alloc, col)?;
+    Ok(RawSubst {
+        node: RawSubstNode::Assign {
+            target,
+            term: RawTerm { node },
+        },
+    })
+}
+
+#[test]
+fn a_variable_is_read_where_it_may_be(rt: HostRuntime) -> Result<(), Fail> {
+    let alloc = rt.alloc();
+    let mut names = Table::new(alloc);
+    let meaning = Meaning::Variable {
+        owner: 0,
+        form: Form::Number(Span { lo: 0, hi: 9 }),
+    };
+    let place = at(1);
+    names.enter(alloc, b"n", Entry { meaning, place })?;
+    let mut view = View {
+        machine: 0,
+        sees: Owners::new(alloc),
+        reads: Owners::new(alloc),
+    };
+    let left = RawTerm {
+        node: RawTermNode::Name(name(alloc, 10)?),
+    };
+    let right = RawTerm {
+        node: RawTermNode::Number {
+            value: 0,
+            place: at(14),
+        },
+    };
+    let term = RawTerm {
+        node: RawTermNode::Binary {
+            operator: RawOperator::Divide,
+            place: at(12),
+            left: Box::new(alloc, left)?,
+            right: Box::new(alloc, right)?,
+        },
+    };
+    let unread = judge_term(alloc, &view, &mut names, false, &term)?;
+    assert_eq!(rt; unread.fault, when(true, 2, at(10)));
+    view.reads.add(0)?;
+    let by_zero = judge_term(alloc, &view, &mut names, false, &term)?;
+    assert_eq!(rt; by_zero.fault, when(true, 7, at(12)));
+    Ok(())
+}
+
+#[test]
+fn both_sides_write_one_name(rt: HostRuntime) -> Result<(), Fail> {
+    let alloc = rt.alloc();
+    let left = set_to_true(alloc, 10)?;
+    let right = set_to_true(alloc, 30)?;
+    let both = RawSubst {
+        node: RawSubstNode::Parallel(Box::new(alloc, left)?, Box::new(alloc, right)?),
+    };
+    let names = Table::new(alloc);
+    let mut written = Table::new(alloc);
+    let shared = add_shared(alloc, &names, &mut written, &both)?;
+    assert_eq!(rt; shared, when(true, 8, at(30)));
+    let list = [name(alloc, 2)?];
+    assert_eq!(rt; not_written(alloc, &both, &list, None)?, None);
+    let nothing = RawSubst {
+        node: RawSubstNode::Skip,
+    };
+    let missing = not_written(alloc, &nothing, &list, None)?;
+    assert_eq!(rt; missing, when(true, 9, at(2)));
+    Ok(())
+}
