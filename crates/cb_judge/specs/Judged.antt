@@ -1,5 +1,5 @@
 -- Forms and faults of terms and formulas as they are written.
-use Rattle.std.specs.Prelude.{ℕ, ℤ, pos, neg_ℤ, Bool, true, false, not, ◌&&◌, List, Option, Some, None, is_none, if◌then◌else◌}
+use Rattle.std.specs.Prelude.{ℕ, ℤ, pos, neg_ℤ, Bool, true, false, not, ◌&&◌, List, length, Option, Some, None, is_none, if◌then◌else◌}
 use Rattle.cb_lex.specs.declared.token.Place.{Place}
 use Rattle.cb_lex.specs.declared.raw.name.RawName.{RawName}
 use Rattle.cb_lex.specs.declared.raw.sign.RawAtom.{RawAtom}
@@ -68,9 +68,9 @@ size_unless is_free a p = if is_free then Nowhere else size_fault a p
 abbrev pub entry : Meaning → Place → Entry
 entry m p = record { meaning = m; place = p }
 
--- the names under a quantifier
+-- the names under a quantifier, whose variable is told by the number of names around it
 abbrev pub under : RawName → Option Choice → Names → Names
-under x c names = inside x.text (entry (meaning.Bound 0 (form_or_nought c)) x.place) names
+under x c names = inside x.text (entry (meaning.Bound (length names) (form_or_nought c)) x.place) names
 
 -- a name that is declared with what its formula says of it
 abbrev pub chosen_fault : Names → RawName → Option Choice → Faults

@@ -27,8 +27,8 @@ pub struct Choice {
     pub size: usize,
 }
 
-// An end of a range, with a minus or without, where it is no name that is no constant.
-fn signed(minus: bool, number: Option<i64>) -> Option<i64>
+/// The number with the other sign, where 64 bits hold it, or the number itself.
+pub fn signed(minus: bool, number: Option<i64>) -> Option<i64>
     ensures { result ≡ signed_of minus number }
 {
     match number {

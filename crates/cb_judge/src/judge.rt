@@ -116,7 +116,7 @@ pub fn chosen(names: &Table<Entry>, name: &RawName, choice: &Option<Choice>) -> 
 }
 
 // Adds a bound variable.
-fn enter(
+pub fn enter(
     alloc: Global,
     names: &mut Table<Entry>,
     name: &RawName,
@@ -125,7 +125,7 @@ fn enter(
     ensures { OnOk result (names.new ≡ under name.now choice.now names.old) }
 {
     let meaning = Meaning::Bound {
-        level: 0,
+        level: names.len(),
         form: form_or_zero(choice),
     };
     let place = name.place;

@@ -27,8 +27,8 @@ pub enum Meaning {
     Variable { owner: u32, form: Form },
     /// A parameter or an ANY's variable.
     Local(Form),
-    /// A bound variable, with the number of those around it.
-    Bound { level: u32, form: Form },
+    /// A bound variable, with the number of names that are known around it.
+    Bound { level: usize, form: Form },
     /// A result, which can be assigned to and not be read.
     Result,
     /// A word that no name may have.

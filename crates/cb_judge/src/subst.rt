@@ -198,7 +198,7 @@ fn form_of_choice(choice: &Option<Choice>) -> Option<Form>
 }
 
 // Adds an ANY's variable.
-fn enter(
+pub fn enter(
     alloc: Global,
     names: &mut Table<Entry>,
     name: &RawName,
