@@ -46,15 +46,28 @@ fn of_meaning(alloc: Global, known: usize, name: &RawName, meaning: Meaning) -> 
 {
     match meaning {
         Meaning::Constant { owner: _, value } => Ok(Term::num(value)),
-        Meaning::Element { owner: _, set, index } => Ok(Term::elem(set, index)),
-        Meaning::Set { owner: _, set, size: _ } => Ok(Term::elems(set)),
+        Meaning::Element {
+            owner: _,
+            set,
+            index,
+        } => Ok(Term::elem(set, index)),
+        Meaning::Set {
+            owner: _,
+            set,
+            size: _,
+        } => Ok(Term::elems(set)),
         Meaning::Bound { level, form: _ } => Ok(Term::bound(bound_index(known, level))),
         _ => Ok(Term::var(copy_name(alloc, name)?)),
     }
 }
 
 // What stands for a name where so many names are known.
-fn of_name(alloc: Global, known: usize, name: &RawName, entry: Option<Entry>) -> Result<Term, Memory>
+fn of_name(
+    alloc: Global,
+    known: usize,
+    name: &RawName,
+    entry: Option<Entry>,
+) -> Result<Term, Memory>
     ensures { IfOk result (λ t. t ≡ named known name.now.text entry) }
 {
     match entry {
@@ -154,7 +167,12 @@ pub fn kind(domain: &Domain) -> Kind
 
 /// The normal form of a term. The table ends as it began.
 #[cycle(normal)]
-pub fn normal_term(alloc: Global, view: &View, names: &mut Table<Entry>, term: &RawTerm) -> Result<Term, Memory>
+pub fn normal_term(
+    alloc: Global,
+    view: &View,
+    names: &mut Table<Entry>,
+    term: &RawTerm,
+) -> Result<Term, Memory>
     ensures tree { IfOk result (λ t. t ≡ term_in view.now names.old term.now) }
     ensures kept { OnOk result (names.new ≡ names.old) }
 {
@@ -165,16 +183,27 @@ pub fn normal_term(alloc: Global, view: &View, names: &mut Table<Entry>, term: &
             Ok(of_name(alloc, names.len(), name, entry)?)
         }
         RawTermNode::Atom { atom, place: _ } => Ok(of_atom(alloc, *atom)?),
-        RawTermNode::Binary { operator, place: _, left, right } => {
+        RawTermNode::Binary {
+            operator,
+            place: _,
+            left,
+            right,
+        } => {
             let a = normal_term(alloc, view, names, left)?;
             let b = normal_term(alloc, view, names, right)?;
             Ok(Term::bin(alloc, sign(*operator), a, b)?)
         }
-        RawTermNode::Minus { place: _, term: operand } => {
+        RawTermNode::Minus {
+            place: _,
+            term: operand,
+        } => {
             let a = normal_term(alloc, view, names, operand)?;
             Ok(negation(alloc, a)?)
         }
-        RawTermNode::Card { place: _, term: operand } => {
+        RawTermNode::Card {
+            place: _,
+            term: operand,
+        } => {
             let a = normal_term(alloc, view, names, operand)?;
             Ok(Term::card(alloc, a)?)
         }
@@ -194,7 +223,12 @@ pub fn normal_term(alloc: Global, view: &View, names: &mut Table<Entry>, term: &
 
 /// The normal form of a formula. The table ends as it began.
 #[cycle(normal)]
-pub fn normal_formula(alloc: Global, view: &View, names: &mut Table<Entry>, formula: &RawFormula) -> Result<Formula, Memory>
+pub fn normal_formula(
+    alloc: Global,
+    view: &View,
+    names: &mut Table<Entry>,
+    formula: &RawFormula,
+) -> Result<Formula, Memory>
     ensures tree { IfOk result (λ f. f ≡ formula_in view.now names.old formula.now) }
     ensures kept { OnOk result (names.new ≡ names.old) }
 {
@@ -225,7 +259,12 @@ pub fn normal_formula(alloc: Global, view: &View, names: &mut Table<Entry>, form
             let g = normal_formula(alloc, view, names, right)?;
             Ok(Formula::iff(alloc, f, g)?)
         }
-        RawFormulaNode::Relation { relation, place: _, left, right } => {
+        RawFormulaNode::Relation {
+            relation,
+            place: _,
+            left,
+            right,
+        } => {
             let a = normal_term(alloc, view, names, left)?;
             let b = normal_term(alloc, view, names, right)?;
             Ok(relation_of(alloc, *relation, a, b)?)

@@ -37,10 +37,18 @@ pub fn typing_conjunct(alloc: Global, name: Name, domain: &Domain) -> Result<For
 {
     let term = Term::var(name);
     match domain {
-        Domain::Range { lo, hi } => Ok(Formula::rel(RelSign::Member, term, range_term(alloc, *lo, *hi)?)),
+        Domain::Range { lo, hi } => Ok(Formula::rel(
+            RelSign::Member,
+            term,
+            range_term(alloc, *lo, *hi)?,
+        )),
         Domain::Truth => Ok(Formula::rel(RelSign::Member, term, Term::truths())),
         Domain::Elems(set) => Ok(Formula::rel(RelSign::Member, term, Term::elems(*set))),
-        Domain::Subsets { lo, hi } => Ok(Formula::rel(RelSign::Subset, term, range_term(alloc, *lo, *hi)?)),
+        Domain::Subsets { lo, hi } => Ok(Formula::rel(
+            RelSign::Subset,
+            term,
+            range_term(alloc, *lo, *hi)?,
+        )),
         Domain::ElemSubsets(set) => Ok(Formula::rel(RelSign::Subset, term, Term::elems(*set))),
     }
 }
@@ -62,12 +70,23 @@ fn assign(target: Name, value: Term) -> Subst
     }
 }
 
-fn choose(alloc: Global, name: Name, domain: Domain, test: Formula, body: Subst) -> Result<Subst, Memory>
+fn choose(
+    alloc: Global,
+    name: Name,
+    domain: Domain,
+    test: Formula,
+    body: Subst,
+) -> Result<Subst, Memory>
     ensures { IfOk result (λ s. s ≡ tree.AnyOf name domain test body) }
 {
     let body = Box::new(alloc, body)?;
     Ok(Subst {
-        node: SubstNode::AnyOf { name, domain, test, body },
+        node: SubstNode::AnyOf {
+            name,
+            domain,
+            test,
+            body,
+        },
     })
 }
 
@@ -91,7 +110,12 @@ fn one_of(alloc: Global, target: Name, domain: Domain) -> Result<Subst, Memory>
 }
 
 /// The normal form of a substitution. The table ends as it began.
-pub fn normal_subst(alloc: Global, view: &View, names: &mut Table<Entry>, subst: &RawSubst) -> Result<Subst, Memory>
+pub fn normal_subst(
+    alloc: Global,
+    view: &View,
+    names: &mut Table<Entry>,
+    subst: &RawSubst,
+) -> Result<Subst, Memory>
     ensures tree { IfOk result (λ s. s ≡ subst_in view.now names.old subst.now) }
     ensures kept { OnOk result (names.new ≡ names.old) }
 {
@@ -101,7 +125,10 @@ pub fn normal_subst(alloc: Global, view: &View, names: &mut Table<Entry>, subst:
             let value = normal_term(alloc, view, names, term)?;
             Ok(assign(copy_name(alloc, target)?, value))
         }
-        RawSubstNode::Among { target, domain: raw } => {
+        RawSubstNode::Among {
+            target,
+            domain: raw,
+        } => {
             let values = domain_or_zero(&domain(names, view, raw));
             let name = copy_name(alloc, target)?;
             Ok(one_of(alloc, name, values)?)
@@ -111,7 +138,11 @@ pub fn normal_subst(alloc: Global, view: &View, names: &mut Table<Entry>, subst:
             let s = normal_subst(alloc, view, names, then)?;
             Ok(branch(alloc, f, s, skip())?)
         }
-        RawSubstNode::IfElse { condition, then, otherwise } => {
+        RawSubstNode::IfElse {
+            condition,
+            then,
+            otherwise,
+        } => {
             let f = normal_formula(alloc, view, names, condition)?;
             let s = normal_subst(alloc, view, names, then)?;
             let t = normal_subst(alloc, view, names, otherwise)?;
@@ -126,7 +157,11 @@ pub fn normal_subst(alloc: Global, view: &View, names: &mut Table<Entry>, subst:
                 node: SubstNode::Choice(all),
             })
         }
-        RawSubstNode::Any { name, condition, body } => {
+        RawSubstNode::Any {
+            name,
+            condition,
+            body,
+        } => {
             let choice = typing(names, view, name.text.as_slice(), condition);
             let written = copy_name(alloc, name)?;
             let outside = names.len();

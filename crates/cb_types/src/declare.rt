@@ -45,7 +45,11 @@ fn number_of(literal: &RawLiteral) -> i64
     ensures { result ≡ literal_number literal.now }
 {
     match literal {
-        RawLiteral::Number { minus, value, place: _ } => number_or_zero(signed(*minus, Some(*value))),
+        RawLiteral::Number {
+            minus,
+            value,
+            place: _,
+        } => number_or_zero(signed(*minus, Some(*value))),
         RawLiteral::MaxInt(_) => MAXINT,
         RawLiteral::MinInt(_) => -MAXINT,
     }
@@ -63,7 +67,12 @@ pub fn numbers(alloc: Global, properties: &[RawProperty]) -> Result<Table<i64>, 
     Ok(numbers)
 }
 
-fn add_choice(alloc: Global, domains: &mut Table<Choice>, name: &[u8], choice: Option<Choice>) -> Result<(), Memory>
+fn add_choice(
+    alloc: Global,
+    domains: &mut Table<Choice>,
+    name: &[u8],
+    choice: Option<Choice>,
+) -> Result<(), Memory>
     ensures { OnOk result (domains.new ≡ with_choice name.now choice domains.old) }
 {
     match choice {
@@ -93,7 +102,13 @@ fn add_conjunct(
 }
 
 // Adds the domains that typing conjuncts give, the first of each name.
-fn add_domains(alloc: Global, view: &View, names: &Table<Entry>, domains: &mut Table<Choice>, formula: &RawFormula) -> Result<(), Memory>
+fn add_domains(
+    alloc: Global,
+    view: &View,
+    names: &Table<Entry>,
+    domains: &mut Table<Choice>,
+    formula: &RawFormula,
+) -> Result<(), Memory>
     ensures { OnOk result (domains.new ≡ domains_from view.now names.now domains.old formula.now) }
 {
     match &formula.node {
@@ -101,16 +116,24 @@ fn add_domains(alloc: Global, view: &View, names: &Table<Entry>, domains: &mut T
             add_domains(alloc, view, names, domains, left)?;
             Ok(add_domains(alloc, view, names, domains, right)?)
         }
-        RawFormulaNode::Relation { relation, place: _, left, right } => {
-            Ok(add_conjunct(alloc, view, names, domains, *relation, left, right)?)
-        }
+        RawFormulaNode::Relation {
+            relation,
+            place: _,
+            left,
+            right,
+        } => { Ok(add_conjunct(alloc, view, names, domains, *relation, left, right)?) }
         _ => Ok(()),
     }
 }
 
 /// The domain of each name that the formula gives one.
-pub fn domains(alloc: Global, view: &View, names: &Table<Entry>, formula: Option<&RawFormula>) -> Result<Table<Choice>, Memory>
-    ensures { IfOk result (λ ds. ds ≡ domains_of view.now names.now (option_copied formula)) }
+pub fn domains(
+    alloc: Global,
+    view: &View,
+    names: &Table<Entry>,
+    formula: Option<&RawFormula>,
+) -> Result<Table<Choice>, Memory>
+    ensures { IfOk result (λ ds. ds ≡ domains_of view.now names.now (option_copied formula.entry)) }
 {
     let mut domains = Table::new(alloc);
     if let Some(f) = formula {
@@ -119,7 +142,13 @@ pub fn domains(alloc: Global, view: &View, names: &Table<Entry>, formula: Option
     Ok(domains)
 }
 
-fn meaning(sort: Sort, numbers: &Table<i64>, domains: &Table<Choice>, index: u32, name: &RawName) -> Meaning
+fn meaning(
+    sort: Sort,
+    numbers: &Table<i64>,
+    domains: &Table<Choice>,
+    index: u32,
+    name: &RawName,
+) -> Meaning
     ensures { result ≡ meaning_of sort numbers.now domains.now index name.now }
 {
     let text = name.text.as_slice();
@@ -141,10 +170,18 @@ fn meaning(sort: Sort, numbers: &Table<i64>, domains: &Table<Choice>, index: u32
 fn domain_fault(choice: &Option<Choice>, place: Place) -> Option<Fault>
     ensures { result ≡ first (domain_faults choice.now place) }
 {
-    earlier(when(is_lacking(choice), 3, place), when(is_deep(choice), 12, place))
+    earlier(
+        when(is_lacking(choice), 3, place),
+        when(is_deep(choice), 12, place),
+    )
 }
 
-fn own_fault(sort: Sort, numbers: &Table<i64>, domains: &Table<Choice>, name: &RawName) -> Option<Fault>
+fn own_fault(
+    sort: Sort,
+    numbers: &Table<i64>,
+    domains: &Table<Choice>,
+    name: &RawName,
+) -> Option<Fault>
     ensures { result ≡ first (sort_fault sort numbers.now domains.now name.now) }
 {
     let text = name.text.as_slice();

@@ -5,4 +5,6 @@ pub mod declare;
 pub mod machine;
 pub mod system;
 pub mod tables;
+#[cfg(test)]
+mod tests;
 pub mod well_formed;

@@ -34,14 +34,21 @@ fn note(alloc: Global, seen: &mut Table<Place>, name: &RawName) -> Result<(), Me
     seen.enter(alloc, name.text.as_slice(), name.place)
 }
 
-fn judge_sees(alloc: Global, known: &Table<Entry>, sees: &[RawName]) -> Result<Option<Fault>, Memory>
+fn judge_sees(
+    alloc: Global,
+    known: &Table<Entry>,
+    sees: &[RawName],
+) -> Result<Option<Fault>, Memory>
     ensures { IfOk result (λ f. f ≡ first (sees_fault known.now [] sees.now)) }
 {
     let mut fault = None;
     let mut seen = Table::new(alloc);
     for name in sees {
         let number = machine_of(known.find(name.text.as_slice()));
-        let own = earlier(stands_again(&seen, name), when(number.is_none(), 2, name.place));
+        let own = earlier(
+            stands_again(&seen, name),
+            when(number.is_none(), 2, name.place),
+        );
         fault = earlier(fault, own);
         note(alloc, &mut seen, name)?;
     }
@@ -52,12 +59,25 @@ fn names_own_constant(owner: u32, entry: Option<Entry>) -> bool
     ensures { result ≡ is_own_constant owner entry }
 {
     match entry {
-        Some(Entry { meaning: Meaning::Constant { owner: other, value: _ }, place: _ }) => owner == other,
+        Some(
+            Entry {
+                meaning: Meaning::Constant {
+                    owner: other,
+                    value: _,
+                },
+                place: _,
+            },
+        ) => owner == other,
         _ => false,
     }
 }
 
-fn judge_properties(alloc: Global, owner: u32, known: &Table<Entry>, properties: &[RawProperty]) -> Result<Option<Fault>, Memory>
+fn judge_properties(
+    alloc: Global,
+    owner: u32,
+    known: &Table<Entry>,
+    properties: &[RawProperty],
+) -> Result<Option<Fault>, Memory>
     ensures { IfOk result (λ f. f ≡ first (properties_fault owner known.now [] properties.now)) }
 {
     let mut fault = None;
@@ -73,7 +93,10 @@ fn judge_properties(alloc: Global, owner: u32, known: &Table<Entry>, properties:
     Ok(fault)
 }
 
-fn judge_operation_names(alloc: Global, operations: &[RawOperation]) -> Result<Option<Fault>, Memory>
+fn judge_operation_names(
+    alloc: Global,
+    operations: &[RawOperation],
+) -> Result<Option<Fault>, Memory>
     ensures { IfOk result (λ f. f ≡ first (operation_names_fault [] operations.now)) }
 {
     let mut fault = None;
@@ -103,7 +126,12 @@ fn judge_body(
     Ok(earlier(own, earlier(shared, missing)))
 }
 
-fn judge_maybe(alloc: Global, view: &View, names: &mut Table<Entry>, formula: &Option<RawFormula>) -> Result<Option<Fault>, Memory>
+fn judge_maybe(
+    alloc: Global,
+    view: &View,
+    names: &mut Table<Entry>,
+    formula: &Option<RawFormula>,
+) -> Result<Option<Fault>, Memory>
     ensures fault { IfOk result (λ f. f ≡ first (maybe_fault view.now names.old formula.now)) }
     ensures kept { OnOk result (names.new ≡ names.old) }
 {
@@ -114,19 +142,46 @@ fn judge_maybe(alloc: Global, view: &View, names: &mut Table<Entry>, formula: &O
 }
 
 /// Declares the results and parameters of an operation.
-pub fn declare_locals(alloc: Global, names: &mut Table<Entry>, domains: &Table<Choice>, operation: &RawOperation) -> Result<Option<Fault>, Memory>
+pub fn declare_locals(
+    alloc: Global,
+    names: &mut Table<Entry>,
+    domains: &Table<Choice>,
+    operation: &RawOperation,
+) -> Result<Option<Fault>, Memory>
     ensures names { OnOk result (names.new ≡ inside_operation domains.now operation.now names.old) }
     ensures fault { IfOk result (λ f. f ≡ first (locals_fault domains.now operation.now names.old)) }
 {
     let numbers = Table::new(alloc);
-    let results = declare(alloc, names, Sort::Result, &numbers, &Table::new(alloc), operation.results.as_slice())?;
-    let parameters = declare(alloc, names, Sort::Parameter, &numbers, domains, operation.parameters.as_slice())?;
+    let results = declare(
+        alloc,
+        names,
+        Sort::Result,
+        &numbers,
+        &Table::new(alloc),
+        operation.results.as_slice(),
+    )?;
+    let parameters = declare(
+        alloc,
+        names,
+        Sort::Parameter,
+        &numbers,
+        domains,
+        operation.parameters.as_slice(),
+    )?;
     let many = operation.parameters.as_slice().len() > 8
         || operation.results.as_slice().len() > 8 - operation.parameters.as_slice().len();
-    Ok(earlier(results, earlier(parameters, when(many, 22, operation.name.place))))
+    Ok(earlier(
+        results,
+        earlier(parameters, when(many, 22, operation.name.place)),
+    ))
 }
 
-fn judge_operation(alloc: Global, view: &View, names: &mut Table<Entry>, operation: &RawOperation) -> Result<Option<Fault>, Memory>
+fn judge_operation(
+    alloc: Global,
+    view: &View,
+    names: &mut Table<Entry>,
+    operation: &RawOperation,
+) -> Result<Option<Fault>, Memory>
     ensures fault { IfOk result (λ f. f ≡ first (operation_fault view.now names.old operation.now)) }
     ensures kept { OnOk result (names.new ≡ names.old) }
 {
@@ -135,12 +190,24 @@ fn judge_operation(alloc: Global, view: &View, names: &mut Table<Entry>, operati
     let locals = declare_locals(alloc, names, &domains, operation)?;
     let before = judge_maybe(alloc, view, names, &operation.precondition)?;
     let at = Some(operation.name.place);
-    let body = judge_body(alloc, view, names, &operation.body, at, operation.results.as_slice())?;
+    let body = judge_body(
+        alloc,
+        view,
+        names,
+        &operation.body,
+        at,
+        operation.results.as_slice(),
+    )?;
     names.leave(outside);
     Ok(earlier(locals, earlier(before, body)))
 }
 
-fn judge_operations(alloc: Global, view: &View, names: &mut Table<Entry>, operations: &[RawOperation]) -> Result<Option<Fault>, Memory>
+fn judge_operations(
+    alloc: Global,
+    view: &View,
+    names: &mut Table<Entry>,
+    operations: &[RawOperation],
+) -> Result<Option<Fault>, Memory>
     ensures fault { IfOk result (λ f. f ≡ first (operations_fault view.now names.old operations.now)) }
     ensures kept { OnOk result (names.new ≡ names.old) }
 {
@@ -153,7 +220,12 @@ fn judge_operations(alloc: Global, view: &View, names: &mut Table<Entry>, operat
 }
 
 /// What is known in a machine, with its variables.
-pub fn view_inside(alloc: Global, known: &Table<Entry>, owner: u32, machine: &RawMachine) -> Result<View, Memory>
+pub fn view_inside(
+    alloc: Global,
+    known: &Table<Entry>,
+    owner: u32,
+    machine: &RawMachine,
+) -> Result<View, Memory>
     ensures { IfOk result (λ v. v ≡ inner_view known.now owner machine.now) }
 {
     let mut view = view(alloc, known, owner, machine)?;
@@ -161,7 +233,13 @@ pub fn view_inside(alloc: Global, known: &Table<Entry>, owner: u32, machine: &Ra
     Ok(view)
 }
 
-fn judge_state(alloc: Global, known: &Table<Entry>, names: &mut Table<Entry>, owner: u32, machine: &RawMachine) -> Result<Option<Fault>, Memory>
+fn judge_state(
+    alloc: Global,
+    known: &Table<Entry>,
+    names: &mut Table<Entry>,
+    owner: u32,
+    machine: &RawMachine,
+) -> Result<Option<Fault>, Memory>
     ensures fault { IfOk result (λ f. f ≡ first (state_fault known.now names.old owner machine.now machine.now.state)) }
     ensures kept { OnOk result (names.new ≡ names.old) }
 {
@@ -171,13 +249,26 @@ fn judge_state(alloc: Global, known: &Table<Entry>, names: &mut Table<Entry>, ow
             let inner = view_inside(alloc, known, owner, machine)?;
             let invariant = judge_formula(alloc, &inner, names, &state.invariant)?;
             let outer = view(alloc, known, owner, machine)?;
-            let start = judge_body(alloc, &outer, names, &state.initialisation, None, state.variables.as_slice())?;
+            let start = judge_body(
+                alloc,
+                &outer,
+                names,
+                &state.initialisation,
+                None,
+                state.variables.as_slice(),
+            )?;
             Ok(earlier(invariant, start))
         }
     }
 }
 
-fn judge_machine(alloc: Global, known: &Table<Entry>, names: &mut Table<Entry>, owner: u32, machine: &RawMachine) -> Result<Option<Fault>, Memory>
+fn judge_machine(
+    alloc: Global,
+    known: &Table<Entry>,
+    names: &mut Table<Entry>,
+    owner: u32,
+    machine: &RawMachine,
+) -> Result<Option<Fault>, Memory>
     ensures fault { IfOk result (λ f. f ≡ first (machine_fault known.now names.old owner machine.now)) }
     ensures kept { OnOk result (names.new ≡ names.old) }
 {
@@ -187,11 +278,19 @@ fn judge_machine(alloc: Global, known: &Table<Entry>, names: &mut Table<Entry>, 
     let state = judge_state(alloc, known, names, owner, machine)?;
     let view = view_inside(alloc, known, owner, machine)?;
     let operations = judge_operations(alloc, &view, names, machine.operations.as_slice())?;
-    Ok(earlier(earlier(sees, properties), earlier(twice, earlier(state, operations))))
+    Ok(earlier(
+        earlier(sees, properties),
+        earlier(twice, earlier(state, operations)),
+    ))
 }
 
 /// The first fault of the machines, but for those of their global names' declarations.
-pub fn judge_machines(alloc: Global, known: &Table<Entry>, names: &mut Table<Entry>, machines: &[RawMachine]) -> Result<Option<Fault>, Memory>
+pub fn judge_machines(
+    alloc: Global,
+    known: &Table<Entry>,
+    names: &mut Table<Entry>,
+    machines: &[RawMachine],
+) -> Result<Option<Fault>, Memory>
     ensures fault { IfOk result (λ f. f ≡ first (machines_fault known.now names.old 0 machines.now)) }
     ensures kept { OnOk result (names.new ≡ names.old) }
 {

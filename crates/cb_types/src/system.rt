@@ -37,7 +37,11 @@ fn declared(alloc: Global, domains: &Table<Choice>, name: &RawName) -> Result<De
     Ok(Declared { name, domain })
 }
 
-fn all_declared(alloc: Global, domains: &Table<Choice>, list: &[RawName]) -> Result<Items<Declared>, Memory>
+fn all_declared(
+    alloc: Global,
+    domains: &Table<Choice>,
+    list: &[RawName],
+) -> Result<Items<Declared>, Memory>
     ensures { IfOk result (λ ds. ds ≡ map (declared_name domains.now) list.now) }
 {
     let mut all = Items::new(alloc);
@@ -47,7 +51,12 @@ fn all_declared(alloc: Global, domains: &Table<Choice>, list: &[RawName]) -> Res
     Ok(all)
 }
 
-fn normal_maybe(alloc: Global, view: &View, names: &mut Table<Entry>, formula: &Option<RawFormula>) -> Result<Formula, Memory>
+fn normal_maybe(
+    alloc: Global,
+    view: &View,
+    names: &mut Table<Entry>,
+    formula: &Option<RawFormula>,
+) -> Result<Formula, Memory>
     ensures formula { IfOk result (λ f. f ≡ maybe_formula view.now names.old formula.now) }
     ensures kept { OnOk result (names.new ≡ names.old) }
 {
@@ -82,7 +91,11 @@ fn result_of(alloc: Global, results: &Table<Given>, name: &RawName) -> Result<(N
     Ok((copy_name(alloc, name)?, kind))
 }
 
-fn all_results(alloc: Global, results: &Table<Given>, list: &[RawName]) -> Result<Items<(Name, Kind)>, Memory>
+fn all_results(
+    alloc: Global,
+    results: &Table<Given>,
+    list: &[RawName],
+) -> Result<Items<(Name, Kind)>, Memory>
     ensures { IfOk result (λ rs. rs ≡ map (result_name results.now) list.now) }
 {
     let mut all = Items::new(alloc);
@@ -116,7 +129,12 @@ fn normal_inside(
     })
 }
 
-fn normal_operation(alloc: Global, view: &View, names: &mut Table<Entry>, operation: &RawOperation) -> Result<Operation, Memory>
+fn normal_operation(
+    alloc: Global,
+    view: &View,
+    names: &mut Table<Entry>,
+    operation: &RawOperation,
+) -> Result<Operation, Memory>
     ensures operation { IfOk result (λ o. o ≡ operation_in view.now names.old operation.now) }
     ensures kept { OnOk result (names.new ≡ names.old) }
 {
@@ -128,7 +146,12 @@ fn normal_operation(alloc: Global, view: &View, names: &mut Table<Entry>, operat
     Ok(normal)
 }
 
-fn normal_operations(alloc: Global, view: &View, names: &mut Table<Entry>, operations: &[RawOperation]) -> Result<Items<Operation>, Memory>
+fn normal_operations(
+    alloc: Global,
+    view: &View,
+    names: &mut Table<Entry>,
+    operations: &[RawOperation],
+) -> Result<Items<Operation>, Memory>
     ensures operations { IfOk result (λ os. os ≡ map (operation_in view.now names.old) operations.now) }
     ensures kept { OnOk result (names.new ≡ names.old) }
 {
@@ -139,7 +162,12 @@ fn normal_operations(alloc: Global, view: &View, names: &mut Table<Entry>, opera
     Ok(all)
 }
 
-fn normal_invariant(alloc: Global, view: &View, names: &mut Table<Entry>, state: &Option<RawState>) -> Result<Formula, Memory>
+fn normal_invariant(
+    alloc: Global,
+    view: &View,
+    names: &mut Table<Entry>,
+    state: &Option<RawState>,
+) -> Result<Formula, Memory>
     ensures invariant { IfOk result (λ f. f ≡ invariant_in view.now names.old state.now) }
     ensures kept { OnOk result (names.new ≡ names.old) }
 {
@@ -149,7 +177,12 @@ fn normal_invariant(alloc: Global, view: &View, names: &mut Table<Entry>, state:
     }
 }
 
-fn normal_start(alloc: Global, view: &View, names: &mut Table<Entry>, state: &Option<RawState>) -> Result<Subst, Memory>
+fn normal_start(
+    alloc: Global,
+    view: &View,
+    names: &mut Table<Entry>,
+    state: &Option<RawState>,
+) -> Result<Subst, Memory>
     ensures start { IfOk result (λ s. s ≡ start_in view.now names.old state.now) }
     ensures kept { OnOk result (names.new ≡ names.old) }
 {
@@ -159,7 +192,13 @@ fn normal_start(alloc: Global, view: &View, names: &mut Table<Entry>, state: &Op
     }
 }
 
-fn normal_machine(alloc: Global, known: &Table<Entry>, names: &mut Table<Entry>, owner: u32, machine: &RawMachine) -> Result<Machine, Memory>
+fn normal_machine(
+    alloc: Global,
+    known: &Table<Entry>,
+    names: &mut Table<Entry>,
+    owner: u32,
+    machine: &RawMachine,
+) -> Result<Machine, Memory>
     ensures machine { IfOk result (λ m. m ≡ machine_in known.now names.old owner machine.now) }
     ensures kept { OnOk result (names.new ≡ names.old) }
 {
@@ -180,7 +219,12 @@ fn normal_machine(alloc: Global, known: &Table<Entry>, names: &mut Table<Entry>,
     })
 }
 
-fn normal_machines(alloc: Global, known: &Table<Entry>, names: &mut Table<Entry>, machines: &[RawMachine]) -> Result<Items<Machine>, Memory>
+fn normal_machines(
+    alloc: Global,
+    known: &Table<Entry>,
+    names: &mut Table<Entry>,
+    machines: &[RawMachine],
+) -> Result<Items<Machine>, Memory>
     ensures machines { IfOk result (λ ms. ms ≡ machines_in known.now names.old 0 machines.now) }
     ensures kept { OnOk result (names.new ≡ names.old) }
 {
@@ -237,7 +281,12 @@ fn constant(alloc: Global, numbers: &Table<i64>, name: &RawName) -> Result<(Name
     Ok((copy_name(alloc, name)?, number))
 }
 
-fn add_constants(alloc: Global, all: &mut Items<(Name, i64)>, numbers: &Table<i64>, list: &[RawName]) -> Result<(), Memory>
+fn add_constants(
+    alloc: Global,
+    all: &mut Items<(Name, i64)>,
+    numbers: &Table<i64>,
+    list: &[RawName],
+) -> Result<(), Memory>
     ensures { OnOk result (all.new ≡ all.old ++ map (constant_in numbers.now) list.now) }
 {
     for name in list {
@@ -258,7 +307,12 @@ fn all_constants(alloc: Global, machines: &[RawMachine]) -> Result<Items<(Name, 
 }
 
 /// The system of the machines, whose names are `known`, and `names`.
-pub fn system(alloc: Global, known: &Table<Entry>, names: &mut Table<Entry>, machines: &[RawMachine]) -> Result<System, Memory>
+pub fn system(
+    alloc: Global,
+    known: &Table<Entry>,
+    names: &mut Table<Entry>,
+    machines: &[RawMachine],
+) -> Result<System, Memory>
     requires known { known.now ≡ known_in machines.now }
     requires names { names.old ≡ names_in machines.now }
     ensures { IfOk result (λ y. IsSystemOf machines.now y) }

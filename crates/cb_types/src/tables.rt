@@ -18,7 +18,13 @@ use cb_lex::raw::text::{RawMachine, RawSet, RawState};
 use cb_lex::token::Place;
 use std::alloc::Global;
 
-fn enter_set(alloc: Global, names: &mut Table<Entry>, owner: u32, set: u32, raw: &RawSet) -> Result<(), Memory>
+fn enter_set(
+    alloc: Global,
+    names: &mut Table<Entry>,
+    owner: u32,
+    set: u32,
+    raw: &RawSet,
+) -> Result<(), Memory>
     ensures { OnOk result (names.new ≡ with_set_name owner set raw.now names.old) }
 {
     let size = raw.elements.as_slice().len();
@@ -28,7 +34,13 @@ fn enter_set(alloc: Global, names: &mut Table<Entry>, owner: u32, set: u32, raw:
 }
 
 // Declares a set with its elements.
-fn declare_set(alloc: Global, names: &mut Table<Entry>, owner: u32, set: u32, raw: &RawSet) -> Result<Option<Fault>, Memory>
+fn declare_set(
+    alloc: Global,
+    names: &mut Table<Entry>,
+    owner: u32,
+    set: u32,
+    raw: &RawSet,
+) -> Result<Option<Fault>, Memory>
     ensures names { OnOk result (names.new ≡ declared (element owner set) [] [] 0 (with_set_name owner set raw.now names.old) raw.now.elements) }
     ensures fault { IfOk result (λ f. f ≡ first (set_fault owner set names.old raw.now)) }
 {
@@ -39,12 +51,25 @@ fn declare_set(alloc: Global, names: &mut Table<Entry>, owner: u32, set: u32, ra
     enter_set(alloc, names, owner, set, raw)?;
     let sort = Sort::Element { owner, set };
     let none = Table::new(alloc);
-    let elements = declare(alloc, names, sort, &none, &Table::new(alloc), raw.elements.as_slice())?;
+    let elements = declare(
+        alloc,
+        names,
+        sort,
+        &none,
+        &Table::new(alloc),
+        raw.elements.as_slice(),
+    )?;
     Ok(earlier(own, elements))
 }
 
 // Declares the sets of a machine; the first has this number. The answer has the number after the last.
-fn declare_sets(alloc: Global, names: &mut Table<Entry>, owner: u32, set: u32, sets: &[RawSet]) -> Result<(u32, Option<Fault>), Memory>
+fn declare_sets(
+    alloc: Global,
+    names: &mut Table<Entry>,
+    owner: u32,
+    set: u32,
+    sets: &[RawSet],
+) -> Result<(u32, Option<Fault>), Memory>
     ensures names { OnOk result (names.new ≡ with_sets owner set names.old sets.now) }
     ensures next { IfOk result (λ r. r.0 ≡ after_sets set sets.now) }
     ensures fault { IfOk result (λ r. r.1 ≡ first (sets_fault owner set names.old sets.now)) }
@@ -59,7 +84,12 @@ fn declare_sets(alloc: Global, names: &mut Table<Entry>, owner: u32, set: u32, s
     Ok((number, fault))
 }
 
-fn enter_machine(alloc: Global, names: &mut Table<Entry>, owner: u32, name: &RawName) -> Result<(), Memory>
+fn enter_machine(
+    alloc: Global,
+    names: &mut Table<Entry>,
+    owner: u32,
+    name: &RawName,
+) -> Result<(), Memory>
     ensures { OnOk result (names.new ≡ with_machine_name owner name.now names.old) }
 {
     let meaning = Meaning::Machine(owner);
@@ -84,12 +114,23 @@ fn declare_statics(
     let (next, sets) = declare_sets(alloc, names, owner, set, machine.sets.as_slice())?;
     let numbers = numbers(alloc, machine.properties.as_slice())?;
     let sort = Sort::Constant(owner);
-    let constants = declare(alloc, names, sort, &numbers, &Table::new(alloc), machine.constants.as_slice())?;
+    let constants = declare(
+        alloc,
+        names,
+        sort,
+        &numbers,
+        &Table::new(alloc),
+        machine.constants.as_slice(),
+    )?;
     Ok((next, earlier(own, earlier(sets, constants))))
 }
 
 /// The names of all machines, sets and constants, beside these names.
-pub fn statics(alloc: Global, names: &mut Table<Entry>, machines: &[RawMachine]) -> Result<(), Memory>
+pub fn statics(
+    alloc: Global,
+    names: &mut Table<Entry>,
+    machines: &[RawMachine],
+) -> Result<(), Memory>
     ensures { OnOk result (names.new ≡ statics_of 0 0 names.old machines.now) }
 {
     let mut owner = 0;
@@ -107,7 +148,12 @@ pub fn machine_of(entry: Option<Entry>) -> Option<u32>
     ensures { result ≡ machine_number entry }
 {
     match entry {
-        Some(Entry { meaning: Meaning::Machine(k), place: _ }) => Some(k),
+        Some(
+            Entry {
+                meaning: Meaning::Machine(k),
+                place: _,
+            },
+        ) => Some(k),
         _ => None,
     }
 }
@@ -132,7 +178,12 @@ fn add_seen(owners: &mut Owners, known: &Table<Entry>, sees: &[RawName]) -> Resu
 }
 
 /// What is known in a machine, but for its variables.
-pub fn view(alloc: Global, known: &Table<Entry>, owner: u32, machine: &RawMachine) -> Result<View, Memory>
+pub fn view(
+    alloc: Global,
+    known: &Table<Entry>,
+    owner: u32,
+    machine: &RawMachine,
+) -> Result<View, Memory>
     ensures { IfOk result (λ v. v ≡ view_of known.now owner machine.now) }
 {
     let mut sees = Owners::new(alloc);
@@ -165,7 +216,12 @@ pub fn variables(state: &Option<RawState>) -> &[RawName]
 }
 
 /// The domains of a machine's variables.
-pub fn variable_domains(alloc: Global, known: &Table<Entry>, owner: u32, machine: &RawMachine) -> Result<Table<Choice>, Memory>
+pub fn variable_domains(
+    alloc: Global,
+    known: &Table<Entry>,
+    owner: u32,
+    machine: &RawMachine,
+) -> Result<Table<Choice>, Memory>
     ensures { IfOk result (λ ds. ds ≡ own_domains known.now owner machine.now) }
 {
     let view = view(alloc, known, owner, machine)?;
@@ -188,12 +244,24 @@ fn declare_machine(
     let (next, statics) = declare_statics(alloc, names, owner, set, machine)?;
     let domains = variable_domains(alloc, known, owner, machine)?;
     let sort = Sort::Variable(owner);
-    let own = declare(alloc, names, sort, &Table::new(alloc), &domains, variables(&machine.state))?;
+    let own = declare(
+        alloc,
+        names,
+        sort,
+        &Table::new(alloc),
+        &domains,
+        variables(&machine.state),
+    )?;
     Ok((next, earlier(statics, own)))
 }
 
 /// The names of a text in its order, beside these names, with the first fault of their declarations.
-pub fn names(alloc: Global, known: &Table<Entry>, names: &mut Table<Entry>, machines: &[RawMachine]) -> Result<Option<Fault>, Memory>
+pub fn names(
+    alloc: Global,
+    known: &Table<Entry>,
+    names: &mut Table<Entry>,
+    machines: &[RawMachine],
+) -> Result<Option<Fault>, Memory>
     ensures names { OnOk result (names.new ≡ names_of known.now 0 0 names.old machines.now) }
     ensures fault { IfOk result (λ f. f ≡ first (names_fault known.now 0 0 names.old machines.now)) }
 {

@@ -38,7 +38,12 @@ impl From<Memory> for IllFormed {
 }
 
 // The first fault of a text, whose names are `known`, and `all`.
-fn first_fault(alloc: Global, known: &Table<Entry>, all: &mut Table<Entry>, machines: &[RawMachine]) -> Result<Option<Fault>, Memory>
+fn first_fault(
+    alloc: Global,
+    known: &Table<Entry>,
+    all: &mut Table<Entry>,
+    machines: &[RawMachine],
+) -> Result<Option<Fault>, Memory>
     requires known { known.now ≡ known_in machines.now }
     requires all { all.old ≡ reserved }
     ensures names { OnOk result (all.new ≡ names_in machines.now) }
