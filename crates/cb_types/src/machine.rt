@@ -176,6 +176,7 @@ pub fn declare_locals(
     ))
 }
 
+#[tactic(auto, using(crate::proofs::Growing::take_operation))]
 fn judge_operation(
     alloc: Global,
     view: &View,

@@ -129,6 +129,7 @@ fn normal_inside(
     })
 }
 
+#[tactic(auto, using(crate::proofs::Growing::take_operation))]
 fn normal_operation(
     alloc: Global,
     view: &View,

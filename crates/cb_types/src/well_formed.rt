@@ -56,6 +56,7 @@ fn first_fault(
 
 /// The system of a text of machines, in which constants stand as their numbers and each sign is one of the few that are kept. The
 /// answer is exactly the least code that occurs in the text, at its first place, where one occurs.
+#[tactic(auto, using(crate::proofs::Firsts::none_is_fine, crate::proofs::Firsts::some_is_first))]
 pub fn well_formed(alloc: Global, raw: &RawText) -> Result<System, IllFormed>
     ensures fine { IfOk result (λ y. WellFormed raw.now.machines) }
     ensures system { IfOk result (λ y. IsSystemOf raw.now.machines y) }
