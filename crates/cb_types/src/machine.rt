@@ -1,6 +1,6 @@
 //! Faults of machines, but for those of their global names' declarations.
 
-ghost use Rattle.std.specs.Prelude.{◌≡◌, [], IfOk, OnOk};
+ghost use Rattle.std.specs.Prelude.{◌≡◌, ◌+◌, [], IfOk, OnOk, length, nat_lt};
 ghost use Rattle.cb_forms.specs.Faults.{first};
 ghost use Rattle.cb_types.specs.Declares.{view_of, inner_view};
 ghost use Rattle.cb_types.specs.MachineFaults.{again, with_seen, sees_fault, is_own_constant, properties_fault, operation_names_fault, body_fault, state_fault, maybe_fault, with_results, inside_operation, locals_fault, operation_fault, operations_fault, machine_fault, machines_fault};
@@ -141,6 +141,18 @@ fn judge_maybe(
     }
 }
 
+// Whether there are more than 8 parameters and results together.
+fn has_many_names(operation: &RawOperation) -> bool
+    ensures { result ≡ nat_lt 8 (length operation.now.parameters + length operation.now.results) }
+{
+    let parameters = operation.parameters.as_slice().len();
+    let results = operation.results.as_slice().len();
+    match parameters.checked_add(results) {
+        Some(n) => n > 8,
+        None => true,
+    }
+}
+
 /// Declares the results and parameters of an operation.
 pub fn declare_locals(
     alloc: Global,
@@ -168,12 +180,8 @@ pub fn declare_locals(
         domains,
         operation.parameters.as_slice(),
     )?;
-    let many = operation.parameters.as_slice().len() > 8
-        || operation.results.as_slice().len() > 8 - operation.parameters.as_slice().len();
-    Ok(earlier(
-        results,
-        earlier(parameters, when(many, 22, operation.name.place)),
-    ))
+    let many = when(has_many_names(operation), 22, operation.name.place);
+    Ok(earlier(results, earlier(parameters, many)))
 }
 
 #[tactic(auto, using(crate::proofs::Growing::take_operation))]
