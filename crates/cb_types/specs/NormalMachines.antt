@@ -1,5 +1,5 @@
 -- The normal form of machines, and the system of a text.
-use Rattle.std.specs.Prelude.{ℕ, ℤ, List, [], ◌∷◌, map, Option, Some, None, flat_map}
+use Rattle.std.specs.Prelude.{ℕ, ℤ, List, [], ◌∷◌, ◌++◌, map, Option, Some, None}
 use Rattle.cb_lex.specs.declared.raw.name.RawName.{RawName}
 use Rattle.cb_lex.specs.declared.raw.text.RawMachine.{RawMachine}
 use Rattle.cb_lex.specs.declared.raw.text.RawOperation.{RawOperation}
@@ -31,7 +31,7 @@ use Rattle.cb_types.specs.MachineFaults.{inside_operation}
 abbrev pub written_name : RawName → Name
 written_name x = written x.text
 
-abbrev pub declared_name : Domains → RawName → Declared
+unfoldable pub declared_name : Domains → RawName → Declared
 declared_name ds x = record { name = written_name x; domain = domain_or (found x.text ds) }
 
 abbrev pub maybe_formula : View → Names → Option RawFormulaTree → FormulaTree
@@ -47,11 +47,11 @@ abbrev pub given_kind : Option Given → Kind
 given_kind None = kind.Integer
 given_kind (Some g) = kind_or_set g.kind
 
-abbrev pub result_name : Results → RawName → Name × Kind
+unfoldable pub result_name : Results → RawName → Name × Kind
 result_name rs x = (written_name x, given_kind (found x.text rs))
 
 -- an operation, of which `names` are known inside
-abbrev pub operation_inside : View → Domains → Names → RawOperation → Operation
+unfoldable pub operation_inside : View → Domains → Names → RawOperation → Operation
 operation_inside v ds names o = record {
   name = written_name o.name;
   params = map (declared_name ds) o.parameters;
@@ -60,7 +60,7 @@ operation_inside v ds names o = record {
   body = subst_in v names o.body;
 }
 
-abbrev pub operation_in : View → Names → RawOperation → Operation
+unfoldable pub operation_in : View → Names → RawOperation → Operation
 operation_in v names o = operation_inside v (domains_of v names o.precondition) (inside_operation (domains_of v names o.precondition) o names) o
 
 abbrev pub invariant_in : View → Names → Option RawState → FormulaTree
@@ -71,7 +71,7 @@ abbrev pub start_in : View → Names → Option RawState → SubstTree
 start_in v names None = Skip
 start_in v names (Some s) = subst_in v names s.initialisation
 
-abbrev pub machine_in : Names → Names → ℕ → RawMachine → Machine
+unfoldable pub machine_in : Names → Names → ℕ → RawMachine → Machine
 machine_in known names owner m = record {
   name = written_name m.name;
   variables = map (declared_name (own_domains known owner m)) (variables_of m.state);
@@ -84,17 +84,21 @@ abbrev pub machines_in : Names → Names → ℕ → List RawMachine → List Ma
 machines_in known names owner [] = []
 machines_in known names owner (m ∷ ms) = machine_in known names owner m ∷ machines_in known names (next owner) ms
 
-abbrev pub set_in : RawSet → SetNames
+unfoldable pub set_in : RawSet → SetNames
 set_in s = record { name = written_name s.name; elements = map written_name s.elements }
 
-abbrev pub constant_in : Numbers → RawName → Name × ℤ
+unfoldable pub constant_in : Numbers → RawName → Name × ℤ
 constant_in ns x = (written_name x, or_zero (found x.text ns))
 
+-- the sets of the machines, one after another
 abbrev pub sets_of : List RawMachine → List SetNames
-sets_of ms = flat_map (λ (m : RawMachine). map set_in m.sets) ms
+sets_of [] = []
+sets_of (m ∷ ms) = map set_in m.sets ++ sets_of ms
 
+-- the constants of the machines, one after another
 abbrev pub constants_of : List RawMachine → List (Name × ℤ)
-constants_of ms = flat_map (λ (m : RawMachine). map (constant_in (numbers_from [] m.properties)) m.constants) ms
+constants_of [] = []
+constants_of (m ∷ ms) = map (constant_in (numbers_from [] m.properties)) m.constants ++ constants_of ms
 
 -- what the names of a text stand for
 abbrev pub known_in : List RawMachine → Names

@@ -184,7 +184,6 @@ pub fn declare_locals(
     Ok(earlier(results, earlier(parameters, many)))
 }
 
-#[tactic(auto, using(crate::proofs::Growing::take_operation))]
 fn judge_operation(
     alloc: Global,
     view: &View,

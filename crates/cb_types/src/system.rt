@@ -29,6 +29,7 @@ use cb_term::tree::Formula;
 use sqlite_items::Items;
 use std::alloc::Global;
 
+#[tactic(auto, unfolding(crate::specs::NormalMachines::declared_name))]
 fn declared(alloc: Global, domains: &Table<Choice>, name: &RawName) -> Result<Declared, Memory>
     ensures { IfOk result (λ d. d ≡ declared_name domains.now name.now) }
 {
@@ -84,6 +85,7 @@ fn kind_given(given: &Option<Given>) -> Kind
     }
 }
 
+#[tactic(auto, unfolding(crate::specs::NormalMachines::result_name))]
 fn result_of(alloc: Global, results: &Table<Given>, name: &RawName) -> Result<(Name, Kind), Memory>
     ensures { IfOk result (λ r. r ≡ result_name results.now name.now) }
 {
@@ -106,6 +108,7 @@ fn all_results(
 }
 
 // The normal form of an operation, where the names inside are known.
+#[tactic(auto, unfolding(crate::specs::NormalMachines::operation_inside))]
 fn normal_inside(
     alloc: Global,
     view: &View,
@@ -129,7 +132,6 @@ fn normal_inside(
     })
 }
 
-#[tactic(auto, using(crate::proofs::Growing::take_operation))]
 fn normal_operation(
     alloc: Global,
     view: &View,
@@ -193,6 +195,7 @@ fn normal_start(
     }
 }
 
+#[tactic(auto, unfolding(crate::specs::NormalMachines::machine_in))]
 fn normal_machine(
     alloc: Global,
     known: &Table<Entry>,
@@ -248,6 +251,7 @@ fn all_names(alloc: Global, list: &[RawName]) -> Result<Names, Memory>
     Ok(all)
 }
 
+#[tactic(auto, unfolding(crate::specs::NormalMachines::set_in))]
 fn set_names(alloc: Global, set: &RawSet) -> Result<SetNames, Memory>
     ensures { IfOk result (λ s. s ≡ set_in set.now) }
 {
@@ -275,6 +279,7 @@ fn all_sets(alloc: Global, machines: &[RawMachine]) -> Result<Vec<SetNames>, Mem
     Ok(all)
 }
 
+#[tactic(auto, unfolding(crate::specs::NormalMachines::constant_in))]
 fn constant(alloc: Global, numbers: &Table<i64>, name: &RawName) -> Result<(Name, i64), Memory>
     ensures { IfOk result (λ c. c ≡ constant_in numbers.now name.now) }
 {

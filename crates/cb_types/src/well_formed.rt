@@ -66,7 +66,8 @@ pub fn well_formed(alloc: Global, raw: &RawText) -> Result<System, IllFormed>
     let mut known = reserved_names(alloc)?;
     statics(alloc, &mut known, machines)?;
     let mut all = reserved_names(alloc)?;
-    match first_fault(alloc, &known, &mut all, machines)? {
+    let first = first_fault(alloc, &known, &mut all, machines)?;
+    match first {
         Some(fault) => Err(IllFormed::Fault {
             code: fault.code,
             place: fault.place,
