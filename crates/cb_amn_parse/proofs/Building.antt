@@ -1,5 +1,5 @@
 -- A machine that builds the values again from what was written for them.
-use Rattle.std.proofs.Common.{◌≡◌, ℕ, ℤ, Bool, true, false, List, [], ◌∷◌, ◌++◌, refl, ap, append_assoc, cond, eqb, if◌then◌else◌}
+use Rattle.std.proofs.Common.{◌≡◌, ℕ, ℤ, Bool, true, false, List, [], ◌∷◌, ◌++◌, refl, ap, append_assoc, cond, eqb, nat_le, if◌then◌else◌}
 use Rattle.std.specs.Prelude.{Option, Some, None}
 use Rattle.cb_lex.specs.declared.token.Place.{Place}
 use Rattle.cb_lex.specs.declared.token.Sort.{Sort}
@@ -27,11 +27,19 @@ use Rattle.cb_lex.specs.declared.raw.text.RawSet.{RawSet}
 use Rattle.cb_lex.specs.declared.raw.text.RawProperty.{RawProperty}
 use Rattle.cb_lex.specs.declared.raw.text.RawState.{RawState}
 use Rattle.cb_lex.specs.declared.raw.text.RawOperation.{RawOperation}
+use Rattle.cb_lex.specs.declared.raw.proof.RawObligation.{RawObligation}
+use Rattle.cb_lex.specs.declared.raw.proof.RawObligation.TheVariants as obligation
+use Rattle.cb_lex.specs.declared.raw.proof.RawRow.{RawRow}
+use Rattle.cb_lex.specs.declared.raw.proof.RawArguments.{RawArguments}
+use Rattle.cb_lex.specs.declared.raw.proof.RawArguments.TheVariants as arguments
+use Rattle.cb_lex.specs.declared.raw.proof.RawProof.{RawProof}
+use Rattle.cb_lex.specs.RawCertTree.{RawCertTree, raw_certs}
+use Rattle.cb_lex.specs.RawCertTree as cert
 use Rattle.cb_lex.specs.RawTermTree.{RawTermTree, RawTerms, RawFormulaTree, raw_terms}
 use Rattle.cb_lex.specs.RawTermTree as tree
 use Rattle.cb_lex.specs.RawSubstTree.{RawSubstTree, RawSubsts, raw_substs}
 use Rattle.cb_lex.specs.RawSubstTree as subst
-use Rattle.cb_grammar.specs.declared.actions.TheConstants.{MACHINE, NO_NAMES, APPEND_NAME, NO_SETS, APPEND_SET, NO_PROPERTIES, APPEND_PROPERTY, LITERAL, MINUS_LITERAL, LIMIT_LITERAL, NO_STATE, SOME_STATE, NO_OPERATIONS, APPEND_OPERATION, SOME_CONDITION, NO_CONDITION, PARALLEL, SKIP, ASSIGN, AMONG, IF, IF_WITHOUT_ELSE, NO_SIDES, APPEND_SIDE, CHOICE, ANY, NAMED_DOMAIN, SET_DOMAIN, RANGE, BOUND, MINUS_BOUND, NUMBER_END, LIMIT_END, NAME_END, ALWAYS_TRUE, ALWAYS_FALSE, NOT, AND, OR, IMPLIES, EQUIVALENT, FOR_ALL, EXISTS, RELATION, NO_TERMS, APPEND_TERM, NAME_TERM, NUMBER_TERM, TRUTH_TERM, LIMIT_TERM, SET_TERM, MINUS, BINARY, SUBTRACT, CARD, BOOL, LISTED}
+use Rattle.cb_grammar.specs.declared.actions.TheConstants.{MACHINE, NO_NAMES, APPEND_NAME, NO_SETS, APPEND_SET, NO_PROPERTIES, APPEND_PROPERTY, LITERAL, MINUS_LITERAL, LIMIT_LITERAL, NO_STATE, SOME_STATE, NO_OPERATIONS, APPEND_OPERATION, SOME_CONDITION, NO_CONDITION, PARALLEL, SKIP, ASSIGN, AMONG, IF, IF_WITHOUT_ELSE, NO_SIDES, APPEND_SIDE, CHOICE, ANY, NAMED_DOMAIN, SET_DOMAIN, RANGE, BOUND, MINUS_BOUND, NUMBER_END, LIMIT_END, NAME_END, ALWAYS_TRUE, ALWAYS_FALSE, NOT, AND, OR, IMPLIES, EQUIVALENT, FOR_ALL, EXISTS, RELATION, NO_TERMS, APPEND_TERM, NAME_TERM, NUMBER_TERM, TRUTH_TERM, LIMIT_TERM, SET_TERM, MINUS, BINARY, SUBTRACT, CARD, BOOL, LISTED, NO_PROOFS, APPEND_PROOF, OBLIGATION_OF_OWNER, OBLIGATION_OF_START, OBLIGATION_OF_PART, OBLIGATION_OF_INITIALISATION, NO_NODES, APPEND_NODE, NO_ROWS, APPEND_ROW, ROW, MINUS_ROW, RULE, RULE_HYPOTHESIS, RULE_TWO_HYPOTHESES, RULE_ROWS, RULE_FORMULA, RULE_TERM, RULE_TWO_TERMS, RULE_HYPOTHESIS_TERM}
 use Rattle.cb_amn_parse.specs.Lexemes.{Lexeme, Named, Said, Did, Lost}
 
 pub data Built : Type 0 where
@@ -52,6 +60,12 @@ pub data Built : Type 0 where
   State : Option RawState → Built
   Operations : List RawOperation → Built
   Machine : RawMachine → Built
+  Obligation : RawObligation → Built
+  Row : RawRow → Built
+  Rows : List RawRow → Built
+  Cert : RawCertTree → Built
+  Certs : List RawCertTree → Built
+  Proofs : List RawProof → Built
 
 abbrev pub sort_atom : Sort → RawAtom
 sort_atom (sort.Keyword keyword.True) = atom.True
@@ -302,8 +316,8 @@ machine (Operations os ∷ State v ∷ Properties ps ∷ Names cs ∷ Sets ss �
     Machine (record { name = x; sees = ms; sets = ss; constants = cs; properties = ps; state = v; operations = os }) ∷ s
 machine _ = []
 
-abbrev step : ℕ → List Built → List Built
-step a s =
+abbrev machine_step : ℕ → List Built → List Built
+machine_step a s =
     if eqb a MACHINE then machine s else
     if eqb a NO_NAMES then Names [] ∷ s else
     if eqb a APPEND_NAME then append_name s else
@@ -319,6 +333,112 @@ step a s =
     if eqb a NO_OPERATIONS then Operations [] ∷ s else
     if eqb a APPEND_OPERATION then append_operation s else
     subst_step a s
+
+abbrev of_owner : List Built → List Built
+of_owner (Word (Said (sort.Number n) q) ∷ Word (Named o) ∷ Word (Named g) ∷ s) = Obligation (obligation.OfOwner g o (record { value = n; place = q })) ∷ s
+of_owner _ = []
+
+abbrev of_start : List Built → List Built
+of_start (Word (Said (sort.Number n) q) ∷ Word (Named o) ∷ Word (Said w p) ∷ s) = Obligation (obligation.OfStart p o (record { value = n; place = q })) ∷ s
+of_start _ = []
+
+abbrev of_part : List Built → List Built
+of_part (Word (Said (sort.Number n) q) ∷ Word (Named x) ∷ Word (Named o) ∷ Word (Named g) ∷ s) = Obligation (obligation.OfPart g o x (record { value = n; place = q })) ∷ s
+of_part _ = []
+
+abbrev of_initialisation : List Built → List Built
+of_initialisation (Word (Said (sort.Number n) q) ∷ Word (Said w p) ∷ Word (Named o) ∷ Word (Named g) ∷ s) = Obligation (obligation.OfInitialisation g o p (record { value = n; place = q })) ∷ s
+of_initialisation _ = []
+
+abbrev append_proof : List Built → List Built
+append_proof (Cert c ∷ Obligation o ∷ Proofs ps ∷ s) = Proofs (ps ++ record { name = o; cert = c } ∷ []) ∷ s
+append_proof _ = []
+
+abbrev append_cert : List Built → List Built
+append_cert (Cert c ∷ Certs cs ∷ s) = Certs (cs ++ c ∷ []) ∷ s
+append_cert _ = []
+
+abbrev row : Bool → List Built → List Built
+row minus (Word (Said (sort.Number n) q) ∷ Word (Said (sort.Number h) p) ∷ s) =
+    Row (record { hypothesis = record { value = h; place = p }; minus = minus; multiplier = record { value = n; place = q } }) ∷ s
+row minus _ = []
+
+abbrev append_row : List Built → List Built
+append_row (Row r ∷ Rows rs ∷ s) = Rows (rs ++ r ∷ []) ∷ s
+append_row _ = []
+
+-- a certificate by the word of its rule
+abbrev cert_of : RawArguments → List RawCertTree → List Built → List Built
+cert_of a cs (Word (Named w) ∷ s) = Cert (cert.Node (record { word = w; arguments = a }) (raw_certs cs)) ∷ s
+cert_of a cs _ = []
+
+abbrev plain_rule : List Built → List Built
+plain_rule (Certs cs ∷ s) = cert_of arguments.Nothing cs s
+plain_rule _ = []
+
+abbrev rule_hypothesis : List Built → List Built
+rule_hypothesis (Certs cs ∷ Word (Said (sort.Number n) q) ∷ s) = cert_of (arguments.Hypothesis (record { value = n; place = q })) cs s
+rule_hypothesis _ = []
+
+abbrev rule_two_hypotheses : List Built → List Built
+rule_two_hypotheses (Certs cs ∷ Word (Said (sort.Number n) q) ∷ Word (Said (sort.Number m) p) ∷ s) =
+    cert_of (arguments.TwoHypotheses (record { value = m; place = p }) (record { value = n; place = q })) cs s
+rule_two_hypotheses _ = []
+
+abbrev rule_rows : List Built → List Built
+rule_rows (Certs cs ∷ Rows rs ∷ s) = cert_of (arguments.Rows rs) cs s
+rule_rows _ = []
+
+abbrev rule_formula : List Built → List Built
+rule_formula (Certs cs ∷ Formula f ∷ s) = cert_of (arguments.Formula f) cs s
+rule_formula _ = []
+
+abbrev rule_term : List Built → List Built
+rule_term (Certs cs ∷ Term t ∷ s) = cert_of (arguments.Term t) cs s
+rule_term _ = []
+
+abbrev rule_two_terms : List Built → List Built
+rule_two_terms (Certs cs ∷ Term t ∷ Term u ∷ s) = cert_of (arguments.TwoTerms u t) cs s
+rule_two_terms _ = []
+
+abbrev rule_hypothesis_term : List Built → List Built
+rule_hypothesis_term (Certs cs ∷ Term t ∷ Word (Said (sort.Number n) q) ∷ s) = cert_of (arguments.HypothesisTerm (record { value = n; place = q }) t) cs s
+rule_hypothesis_term _ = []
+
+abbrev rule_term_number : List Built → List Built
+rule_term_number (Certs cs ∷ Word (Said (sort.Number n) q) ∷ Term t ∷ s) = cert_of (arguments.TermNumber t (record { value = n; place = q })) cs s
+rule_term_number _ = []
+
+abbrev rule_step : ℕ → List Built → List Built
+rule_step a s =
+    if eqb a RULE then plain_rule s else
+    if eqb a RULE_HYPOTHESIS then rule_hypothesis s else
+    if eqb a RULE_TWO_HYPOTHESES then rule_two_hypotheses s else
+    if eqb a RULE_ROWS then rule_rows s else
+    if eqb a RULE_FORMULA then rule_formula s else
+    if eqb a RULE_TERM then rule_term s else
+    if eqb a RULE_TWO_TERMS then rule_two_terms s else
+    if eqb a RULE_HYPOTHESIS_TERM then rule_hypothesis_term s else
+    rule_term_number s
+
+abbrev proof_step : ℕ → List Built → List Built
+proof_step a s =
+    if eqb a NO_PROOFS then Proofs [] ∷ s else
+    if eqb a APPEND_PROOF then append_proof s else
+    if eqb a OBLIGATION_OF_OWNER then of_owner s else
+    if eqb a OBLIGATION_OF_START then of_start s else
+    if eqb a OBLIGATION_OF_PART then of_part s else
+    if eqb a OBLIGATION_OF_INITIALISATION then of_initialisation s else
+    if eqb a NO_NODES then Certs [] ∷ s else
+    if eqb a APPEND_NODE then append_cert s else
+    if eqb a NO_ROWS then Rows [] ∷ s else
+    if eqb a APPEND_ROW then append_row s else
+    if eqb a ROW then row false s else
+    if eqb a MINUS_ROW then row true s else
+    rule_step a s
+
+abbrev step : ℕ → List Built → List Built
+step a s = if nat_le NO_PROOFS a then proof_step a s else machine_step a s
 
 abbrev pub told : Lexeme → List Built → List Built
 told (Did a) s = step a s

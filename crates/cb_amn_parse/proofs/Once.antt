@@ -23,19 +23,28 @@ use Rattle.cb_lex.specs.declared.raw.text.RawSet.{RawSet}
 use Rattle.cb_lex.specs.declared.raw.text.RawProperty.{RawProperty}
 use Rattle.cb_lex.specs.declared.raw.text.RawState.{RawState}
 use Rattle.cb_lex.specs.declared.raw.text.RawOperation.{RawOperation}
+use Rattle.cb_lex.specs.declared.raw.proof.RawObligation.{RawObligation}
+use Rattle.cb_lex.specs.declared.raw.proof.RawObligation.TheVariants as obligation
+use Rattle.cb_lex.specs.declared.raw.proof.RawRow.{RawRow}
+use Rattle.cb_lex.specs.declared.raw.proof.RawArguments.{RawArguments}
+use Rattle.cb_lex.specs.declared.raw.proof.RawArguments.TheVariants as arguments
+use Rattle.cb_lex.specs.declared.raw.proof.RawProof.{RawProof}
+use Rattle.cb_lex.specs.RawCertTree.{RawCertTree, RawCerts, raw_certs}
+use Rattle.cb_lex.specs.RawCertTree as cert
 use Rattle.cb_lex.specs.RawTermTree.{RawTermTree, RawTerms, RawFormulaTree, raw_terms}
 use Rattle.cb_lex.specs.RawTermTree as tree
 use Rattle.cb_lex.specs.RawSubstTree.{RawSubstTree, RawSubsts, raw_substs}
 use Rattle.cb_lex.specs.RawSubstTree as subst
 use Rattle.cb_engine.specs.declared.Item.{Item}
-use Rattle.cb_grammar.specs.declared.actions.TheConstants.{RELATION, RANGE}
+use Rattle.cb_grammar.specs.declared.actions.TheConstants.{RELATION, RANGE, NO_NODES, APPEND_PROOF}
 use Rattle.cb_grammar.specs.declared.parts.Part.{Part}
 use Rattle.cb_amn_parse.specs.Lexemes.{Lexeme, Named, Said, Did, lexemes}
 use Rattle.cb_amn_parse.specs.Words.{atom_sort, atom_action, operator_sort, operator_action, relation_sort}
 use Rattle.cb_amn_parse.specs.Formulas.{term_out, listed_out, formula_out, terms_out, names_out, name_entry, condition_out}
 use Rattle.cb_amn_parse.specs.Machines.{literal_out, end_out, bound_action, bound_out, domain_out, subst_out, choice_out, set_entry, sets_out, property_entry, properties_out, state_out, operation_entry, operations_out, machine_out}
+use Rattle.cb_amn_parse.specs.Proofs.{numeral, obligation_out, row_action, row_out, row_entry, rows_out, arguments_out, rule_action, node_out, children_out, proof_entry, proofs_out}
 use Rattle.cb_amn_parse.specs.Spelling.{IsSpelled}
-use Rattle.cb_amn_parse.proofs.Building.{Built, Word, Formula, Term, Terms, Names, Condition, Literal, End, Bound, Domain, Subst, Sides, Sets, Properties, State, Operations, Machine, run, run_append}
+use Rattle.cb_amn_parse.proofs.Building.{Built, Word, Formula, Term, Terms, Names, Condition, Literal, End, Bound, Domain, Subst, Sides, Sets, Properties, State, Operations, Machine, Obligation, Row, Rows, Cert, Certs, Proofs, run, run_append}
 
 abbrev term_list : RawTerms → List RawTermTree
 term_list tree.End = []
@@ -199,6 +208,65 @@ run_operations xs s = run_operations_on xs [] s
 run_machine : (m : RawMachine) (s : List Built) → run (machine_out m) s ≡ Machine m ∷ s
 run_machine m s = simp (run_append, run_names m.sees, run_sets m.sets, run_names m.constants, run_properties m.properties, run_state m.state, run_operations m.operations) refl
 
+run_obligation : (o : RawObligation) (s : List Built) → run (obligation_out o) s ≡ Obligation o ∷ s
+run_obligation (obligation.OfOwner g o n) s = refl
+run_obligation (obligation.OfStart p o n) s = refl
+run_obligation (obligation.OfPart g o x n) s = refl
+run_obligation (obligation.OfInitialisation g o p n) s = refl
+
+run_row : (r : RawRow) (s : List Built) → run (row_out r) s ≡ Row r ∷ s
+run_row r s = signed r.minus
+  where
+    signed : (minus : Bool) → run (numeral r.hypothesis ∷ numeral r.multiplier ∷ Did (row_action minus) ∷ []) s ≡ Row (record { hypothesis = r.hypothesis; minus = minus; multiplier = r.multiplier }) ∷ s
+    signed true = refl
+    signed false = refl
+
+run_rows_on : (xs front : List RawRow) (s : List Built) → run (flat_map row_entry xs) (Rows front ∷ s) ≡ Rows (front ++ xs) ∷ s
+run_rows_on [] front s = rw append-nil refl
+run_rows_on (x ∷ xs) front s = simp (run_row x, run_rows_on xs, append_assoc) refl
+
+run_rows : (xs : List RawRow) (s : List Built) → run (rows_out xs) s ≡ Rows xs ∷ s
+run_rows xs s = run_rows_on xs [] s
+
+abbrev cert_list : RawCerts → List RawCertTree
+cert_list cert.NoChild = []
+cert_list (cert.Child c cs) = c ∷ cert_list cs
+
+certs_again : (cs : RawCerts) → raw_certs (cert_list cs) ≡ cs
+certs_again cert.NoChild = refl
+certs_again (cert.Child c cs) = ap (λ (y : RawCerts). cert.Child c y) (certs_again cs)
+
+-- the premises of a rule build their list
+abbrev RunsChildren : RawCerts → Type 0
+RunsChildren cs = (front : List RawCertTree) (s : List Built) → run (children_out cs) (Certs front ∷ s) ≡ Certs (front ++ cert_list cs) ∷ s
+
+run_rule : (w : RawName) (a : RawArguments) (cs : RawCerts) (s : List Built) → RunsChildren cs →
+    run (Named w ∷ arguments_out a ++ Did NO_NODES ∷ children_out cs ++ Did (rule_action a) ∷ []) s ≡ Cert (cert.Node (record { word = w; arguments = a }) cs) ∷ s
+run_rule w arguments.Nothing cs s h = simp (run_append, h, certs_again) refl
+run_rule w (arguments.Hypothesis n) cs s h = simp (run_append, h, certs_again) refl
+run_rule w (arguments.TwoHypotheses m n) cs s h = simp (run_append, h, certs_again) refl
+run_rule w (arguments.Rows rs) cs s h = simp (run_append, run_rows rs, h, certs_again) refl
+run_rule w (arguments.Formula f) cs s h = simp (run_append, run_formula f, h, certs_again) refl
+run_rule w (arguments.Term t) cs s h = simp (run_append, run_term t, h, certs_again) refl
+run_rule w (arguments.TwoTerms t u) cs s h = simp (run_append, run_term t, run_term u, h, certs_again) refl
+run_rule w (arguments.HypothesisTerm n t) cs s h = simp (run_append, run_term t, h, certs_again) refl
+run_rule w (arguments.TermNumber t n) cs s h = simp (run_append, run_term t, h, certs_again) refl
+
+mutual
+  run_cert : (c : RawCertTree) (s : List Built) → run (node_out c) s ≡ Cert c ∷ s
+  run_cert (cert.Node r cs) s = run_rule r.word r.arguments cs s (run_children cs)
+
+  run_children : (cs : RawCerts) (front : List RawCertTree) (s : List Built) → run (children_out cs) (Certs front ∷ s) ≡ Certs (front ++ cert_list cs) ∷ s
+  run_children cert.NoChild front s = rw append-nil refl
+  run_children (cert.Child c cs) front s = simp (run_append, run_cert c, run_children cs, append_assoc) refl
+
+run_proofs_on : (xs front : List RawProof) (s : List Built) → run (flat_map proof_entry xs) (Proofs front ∷ s) ≡ Proofs (front ++ xs) ∷ s
+run_proofs_on [] front s = rw append-nil refl
+run_proofs_on (x ∷ xs) front s = simp (run_append, run_obligation x.name, run_cert x.cert, run_proofs_on xs, append_assoc) refl
+
+run_proofs : (xs : List RawProof) (s : List Built) → run (proofs_out xs) s ≡ Proofs xs ∷ s
+run_proofs xs s = run_proofs_on xs [] s
+
 again : (a b : List Lexeme) (x y : Built) → run a [] ≡ x ∷ [] → run b [] ≡ y ∷ [] → a ≡ b → x ∷ [] ≡ y ∷ []
 again a b x y p q e = sym p ∙ (ap (λ (ls : List Lexeme). run ls []) e ∙ q)
 
@@ -213,6 +281,9 @@ domain_once d e p = let q : Domain d ∷ [] ≡ Domain e ∷ [] = again (domain_
 
 pub machine_once : (m n : RawMachine) → machine_out m ≡ machine_out n → m ≡ n
 machine_once m n e = let q : Machine m ∷ [] ≡ Machine n ∷ [] = again (machine_out m) (machine_out n) (Machine m) (Machine n) (run_machine m []) (run_machine n []) e in cc
+
+pub proofs_once : (ps qs : List RawProof) → proofs_out ps ≡ proofs_out qs → ps ≡ qs
+proofs_once ps qs e = let q : Proofs ps ∷ [] ≡ Proofs qs ∷ [] = again (proofs_out ps) (proofs_out qs) (Proofs ps) (Proofs qs) (run_proofs ps []) (run_proofs qs []) e in cc
 
 -- the items are determined by the tokens
 pub same_out : (p : Part) (depth : ℕ) (opened : Bool) (ts : List Token) (taken : ℕ) (a b : List Lexeme) → IsSpelled p depth opened ts taken a → IsSpelled p depth opened ts taken b → a ≡ b

@@ -3,6 +3,7 @@ pub mod Words
 pub mod Formulas
 pub mod Machines
 pub mod Processes
+pub mod Proofs
 pub mod Values
 pub mod Own
 pub mod Spelling

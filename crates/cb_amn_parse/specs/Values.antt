@@ -5,7 +5,7 @@ use Rattle.cb_lex.specs.declared.token.Sort.TheVariants as sort
 use Rattle.cb_lex.specs.declared.token.Keyword.{Keyword}
 use Rattle.cb_lex.specs.declared.token.Keyword.TheVariants as keyword
 use Rattle.cb_lex.specs.declared.token.Sign.TheVariants as sign
-use Rattle.cb_grammar.specs.Signatures.{signatures, name_kind, number_kind, limit_kind, truth_kind, set_kind, relation_kind, card_kind, bool_kind, brace_kind, stop_kind, skip_kind, if_kind, text_kind, machines_kind, machine_kind, channels_kind, controllers_kind, controller_kind, names_kind, sets_kind, literal_kind, properties_kind, state_kind, operations_kind, substitution_kind, sides_kind, domain_kind, bound_kind, end_kind, condition_kind, parameter_kind, parameters_kind, definitions_kind, process_kind, chain_kind, event_kind, formula_kind, term_kind, terms_kind}
+use Rattle.cb_grammar.specs.Signatures.{signatures, name_kind, number_kind, limit_kind, truth_kind, set_kind, relation_kind, card_kind, bool_kind, brace_kind, stop_kind, skip_kind, if_kind, initialisation_kind, start_kind, text_kind, machines_kind, machine_kind, channels_kind, controllers_kind, controller_kind, names_kind, sets_kind, literal_kind, properties_kind, state_kind, operations_kind, substitution_kind, sides_kind, domain_kind, bound_kind, end_kind, condition_kind, parameter_kind, parameters_kind, definitions_kind, process_kind, chain_kind, event_kind, formula_kind, term_kind, terms_kind, proofs_kind, obligation_kind, node_kind, nodes_kind, row_kind, rows_kind}
 use Rattle.cb_amn_parse.specs.declared.value.Limit.{Limit}
 use Rattle.cb_amn_parse.specs.declared.value.Limit.TheVariants as limit
 use Rattle.cb_amn_parse.specs.declared.value.SetWord.{SetWord}
@@ -17,6 +17,7 @@ use Rattle.cb_amn_parse.specs.Words.{operator_sort, kind_of_operator, relation_s
 use Rattle.cb_amn_parse.specs.Formulas.{term_out, formula_out, terms_out, names_out, condition_out}
 use Rattle.cb_amn_parse.specs.Machines.{literal_out, end_out, bound_out, domain_out, subst_out, sides_out, sets_out, properties_out, state_out, operations_out, machine_out}
 use Rattle.cb_amn_parse.specs.Processes.{text_out, machines_out, channels_out, controllers_out, controller_out, parameter_out, parameters_out, definitions_out, process_out, chain_out, event_out}
+use Rattle.cb_amn_parse.specs.Proofs.{obligation_out, row_out, rows_out, node_out, nodes_out, proofs_out}
 
 abbrev pub limit_keyword : Limit → Keyword
 limit_keyword limit.MaxInt = keyword.MaxInt
@@ -47,6 +48,8 @@ value_out (value.Brace p) = Said (sort.Sign sign.OpenBrace) p ∷ []
 value_out (value.Stop p) = Said (sort.Keyword keyword.Stop) p ∷ []
 value_out (value.Skip p) = Said (sort.Keyword keyword.SkipProcess) p ∷ []
 value_out (value.If p) = Said (sort.Keyword keyword.If) p ∷ []
+value_out (value.Initialisation p) = Said (sort.Keyword keyword.Initialisation) p ∷ []
+value_out (value.Start p) = Said (sort.Keyword keyword.Start) p ∷ []
 value_out (value.Formula f) = formula_out f
 value_out (value.Term t) = term_out t
 value_out (value.Terms ts) = terms_out ts
@@ -74,6 +77,12 @@ value_out (value.Definitions ds) = definitions_out ds
 value_out (value.Controller c) = controller_out c
 value_out (value.Controllers cs) = controllers_out cs
 value_out (value.Text t) = text_out t
+value_out (value.Obligation o) = obligation_out o
+value_out (value.Row r) = row_out r
+value_out (value.Rows rs) = rows_out rs
+value_out (value.Node c) = node_out c
+value_out (value.Nodes cs) = nodes_out cs.items
+value_out (value.Proofs ps) = proofs_out ps
 
 abbrev pub kind_of : Value → ℕ
 kind_of (value.Name x) = name_kind
@@ -89,6 +98,8 @@ kind_of (value.Brace p) = brace_kind
 kind_of (value.Stop p) = stop_kind
 kind_of (value.Skip p) = skip_kind
 kind_of (value.If p) = if_kind
+kind_of (value.Initialisation p) = initialisation_kind
+kind_of (value.Start p) = start_kind
 kind_of (value.Formula f) = formula_kind
 kind_of (value.Term t) = term_kind
 kind_of (value.Terms ts) = terms_kind
@@ -116,6 +127,12 @@ kind_of (value.Definitions ds) = definitions_kind
 kind_of (value.Controller c) = controller_kind
 kind_of (value.Controllers cs) = controllers_kind
 kind_of (value.Text t) = text_kind
+kind_of (value.Obligation o) = obligation_kind
+kind_of (value.Row r) = row_kind
+kind_of (value.Rows rs) = rows_kind
+kind_of (value.Node c) = node_kind
+kind_of (value.Nodes cs) = nodes_kind
+kind_of (value.Proofs ps) = proofs_kind
 
 -- what was written for all values on the stack, the top being the last
 abbrev pub stack_out : List Value → List Lexeme

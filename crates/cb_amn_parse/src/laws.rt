@@ -2,6 +2,7 @@
 
 ghost use Rattle.cb_amn_parse.specs.Formulas.{formula_out, term_out};
 ghost use Rattle.cb_amn_parse.specs.Machines.{domain_out, machine_out};
+ghost use Rattle.cb_amn_parse.specs.Proofs.{proofs_out};
 ghost use Rattle.cb_grammar.specs.declared.parts.Part.TheVariants as part;
 ghost use Rattle.cb_amn_parse.specs.Laws.{IsOne};
 
@@ -23,4 +24,9 @@ pub fn domain_is_one()
 /// Tokens spell one machine at most.
 pub fn machine_is_one()
     ensures { IsOne machine_out part.Machine }
+{}
+
+/// Tokens spell one list of proofs at most.
+pub fn proofs_are_one()
+    ensures { IsOne proofs_out part.Proofs }
 {}

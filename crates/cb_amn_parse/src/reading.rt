@@ -1,22 +1,43 @@
 //! Reading a formula, a term, a domain or a machine from the lexer's tokens.
 
-ghost use Rattle.std.specs.Prelude.{◌≡◌, ◌≤◌, ◌<◌, length, drop, IfOk, IfErr, true, false};
+ghost use Rattle.std.specs.Prelude.{◌≡◌, ◌≤◌, ◌<◌, [], length, drop, Some, IfOk, IfErr, true, false};
+ghost use Rattle.cb_engine.specs.Kinds.{kinds};
 ghost use Rattle.cb_grammar.specs.Parts.{kinds_left};
-ghost use Rattle.cb_grammar.specs.Misreadings.{Misread};
+ghost use Rattle.cb_grammar.specs.Misreadings.{IsRead, Misread};
+ghost use Rattle.cb_grammar.specs.Signatures.{signatures};
 ghost use Rattle.cb_amn_parse.specs.Formulas.{formula_out, term_out};
 ghost use Rattle.cb_amn_parse.specs.Machines.{domain_out, machine_out};
 ghost use Rattle.cb_amn_parse.specs.Own.{are_own};
-ghost use Rattle.cb_amn_parse.specs.Spelling.{IsSpelled, SpellsFrom};
+ghost use Rattle.cb_amn_parse.specs.Spelling.{AreHeard, IsSpelled, SpellsFrom};
 ghost use Rattle.cb_amn_parse.specs.Values.{stack_out, kinds_of};
 
 use crate::evaluate::evaluate;
 use crate::value::{Value, pop_domain, pop_formula, pop_machine, pop_term};
-use cb_grammar::{Part, SyntaxFault, read_part};
+use cb_grammar::{Part, SyntaxFault, Written, read_part};
 use cb_lex::raw::domain::RawDomain;
 use cb_lex::raw::term::{RawFormula, RawTerm};
 use cb_lex::raw::text::RawMachine;
 use cb_lex::token::Token;
 use std::alloc::Global;
+
+/// Reads the part from the first token on, as `read_part` does. The words among the items that are written are tokens.
+pub fn read_items(
+    alloc: Global,
+    tokens: &[Token],
+    part: Part,
+    depth: u32,
+    opened: bool,
+) -> Result<Written, SyntaxFault>
+    requires { depth ≤ 200 }
+    ensures reads { IfOk result (λ w. IsRead part depth opened tokens.now w.taken w.items.items) }
+    ensures fits { IfOk result (λ w. kinds signatures w.items.items [] ≡ Some (kinds_left part)) }
+    ensures heard { IfOk result (λ w. AreHeard tokens.now w.items.items) }
+    ensures within { IfOk result (λ w. w.taken ≤ length tokens.now) }
+    ensures fault { IfErr result (Misread part depth opened tokens.now) }
+{
+    let written = read_part(alloc, tokens, part, depth, opened)?;
+    Ok(written)
+}
 
 // the values of the part, and how many tokens it has
 fn read_values(
@@ -34,7 +55,7 @@ fn read_values(
     ensures within { IfOk result (λ r. r.1 ≤ length tokens.now) }
     ensures fault { IfErr result (Misread part depth opened tokens.now) }
 {
-    let written = read_part(alloc, tokens, part, depth, opened)?;
+    let written = read_items(alloc, tokens, part, depth, opened)?;
     let stack = evaluate(alloc, tokens, &written.items)?;
     Ok((stack, written.taken))
 }

@@ -17,6 +17,7 @@ use cb_lex::raw::domain::{RawBound, RawDomain, RawEnd, RawLiteral, RawParam};
 use cb_lex::raw::event::RawEvent;
 use cb_lex::raw::name::{RawName, RawNames};
 use cb_lex::raw::process::{RawProcess, RawProcesses};
+use cb_lex::raw::proof::{RawCert, RawObligation, RawProofs, RawRow, RawRows};
 use cb_lex::raw::sign::{RawOperator, RawRelation};
 use cb_lex::raw::subst::{RawSubst, RawSubsts};
 use cb_lex::raw::term::{RawFormula, RawTerm, RawTerms};
@@ -67,6 +68,10 @@ pub enum Value {
     Skip(Place),
     /// `IF` of processes.
     If(Place),
+    /// `INITIALISATION` in the name of an obligation.
+    Initialisation(Place),
+    /// `START` in the name of an obligation.
+    Start(Place),
     Formula(RawFormula),
     Term(RawTerm),
     Terms(RawTerms),
@@ -98,6 +103,13 @@ pub enum Value {
     Controller(RawController),
     Controllers(Items<RawController>),
     Text(RawText),
+    Obligation(RawObligation),
+    Row(RawRow),
+    Rows(RawRows),
+    Node(RawCert),
+    /// The certificates of the premises of a rule.
+    Nodes(Vec<RawCert>),
+    Proofs(RawProofs),
 }
 
 /// Puts a value on top.

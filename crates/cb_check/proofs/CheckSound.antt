@@ -5,7 +5,7 @@ use Rattle.std.proofs.lemmas.Option.{same_Some}
 use Rattle.cb_seq.specs.declared.rule.Rule.{Rule}
 use Rattle.cb_seq.specs.declared.premise.Premise.{Premise}
 use Rattle.cb_seq.specs.Tree.{CertTree, Node, CertTrees, End, More}
-use Rattle.cb_seq.specs.Arguments.{arguments_fit}
+use Rattle.cb_seq.specs.Arguments.{arguments_fit, rule_among}
 use Rattle.cb_seq.specs.Validity.{Claim, Valid, AllValid, Kinded, AllKinded}
 use Rattle.cb_seq.specs.Premises.{premise_of, premises_of, Outcome, only_where, Carry, Sound}
 use Rattle.cb_check_logic.specs.LogicRules.{logic_premises}
@@ -16,7 +16,7 @@ use Rattle.cb_check_numbers.specs.NumberRules.{number_premises}
 use Rattle.cb_check_numbers.specs.Laws.{NumberRulesAreSound}
 use Rattle.cb_check_sets.specs.SetRules.{set_premises}
 use Rattle.cb_check_sets.specs.Laws.{SetRulesAreSound}
-use Rattle.cb_check.specs.Derives.{are_small, if_small, or_else, rule_premises, premises, Derives, DeriveAll, are_as_many, first_number, bad_node, first_bad, first_bad_child}
+use Rattle.cb_check.specs.Derives.{are_small, if_small, or_else, rule_premises, told_premises, premises, Derives, DeriveAll, are_as_many, first_number, bad_node, first_bad, first_bad_child}
 use Rattle.cb_check.specs.Laws.{DerivedIsValid, DerivesWithoutBad}
 
 -- ---- rules
@@ -39,7 +39,7 @@ fit_only true o ps e = (refl, e)
 fit_only false o ps e = cc
 
 module _ (logic : LogicRulesAreSound) (names : NameRulesAreSound) (numbers : NumberRulesAreSound) (sets : SetRulesAreSound) where
-  carried : (sizes : List ℕ) (r : Rule) (q : Claim) (ps : List Premise) → premises sizes r q ≡ Some ps → Kinded sizes q → Carry sizes q ps
+  carried : (sizes : List ℕ) (r : Rule) (q : Claim) (ps : List Premise) → told_premises sizes r q ≡ Some ps → Kinded sizes q → Carry sizes q ps
   carried sizes r q ps e k =
       let f = fit_only (arguments_fit sizes q.names r) (if_small q (rule_premises sizes r q)) ps e in
       one_of (logic_premises sizes r q) _ ps (small_only q (rule_premises sizes r q) ps f.1) (Carry sizes q ps) (λ o. logic sizes r q ps o f.0 k)
@@ -52,7 +52,7 @@ module _ (logic : LogicRulesAreSound) (names : NameRulesAreSound) (numbers : Num
   mutual
     pub derived_valid : DerivedIsValid
     derived_valid sizes (Node r cs) q k d =
-        let c = carried sizes r q d.0 d.1 k in
+        let c = carried sizes (rule_among sizes q.names r) q d.0 d.1 k in
         c.1 (all_valid sizes cs q d.0 c.0 d.2)
 
     all_valid : (sizes : List ℕ) (cs : CertTrees) (q : Claim) (ps : List Premise) → AllKinded sizes (premises_of q ps) → DeriveAll sizes cs q ps → AllValid sizes (premises_of q ps)

@@ -47,6 +47,10 @@ counts_at n q r e k = rw e k
 
 -- ---- nodes and their children
 
+-- how many nodes stand before these last children
+abbrev pub before : CertTree → List CertTree → ℕ
+before c cs = cert_nodes c - certs_nodes (certs_of cs)
+
 count_same : (cs : List CertTree) (ps : List Premise) → length ps ≡ length cs → are_as_many (certs_of cs) ps ≡ true
 count_same [] [] e = refl
 count_same [] (p ∷ ps) e = absurd (omega arith)
@@ -63,8 +67,13 @@ module _ (sizes : List ℕ) (r : Rule) (cs : List CertTree) (q : Claim) (ps : Li
   pub miscounted : (length ps ≡ length cs → ⊥) → first_bad sizes (Node r (certs_of cs)) q ≡ Some 1
   miscounted n = rw (o, count_apart cs ps n) refl
 
-  pub begun : length ps ≡ length cs → first_bad sizes (Node r (certs_of cs)) q ≡ first_number None 1 (first_bad_child sizes (certs_of cs) q ps)
-  begun e = rw (o, count_same cs ps e) refl
+  pub begun : length ps ≡ length cs → first_bad sizes (Node r (certs_of cs)) q ≡ first_number None (before (Node r (certs_of cs)) cs) (first_bad_child sizes (certs_of cs) q ps)
+  begun e =
+      let one : before (Node r (certs_of cs)) cs ≡ 1 = omega arith in
+      rw one (rw (o, count_same cs ps e) refl)
+
+pub unmet : (sizes : List ℕ) (r : Rule) (cs : CertTrees) (q : Claim) → premises sizes r q ≡ None → first_bad sizes (Node r cs) q ≡ Some 1
+unmet sizes r cs q n = rw n refl
 
 counted_on : (n k : ℕ) (o : Option ℕ) → first_number None n (first_number None k o) ≡ first_number None (n + k) o
 counted_on n k None = refl
@@ -93,37 +102,3 @@ module _ (sizes : List ℕ) (q : Claim) (cs : List CertTree) (i : ℕ) (c : Cert
 
     pub bad_step : (n k : ℕ) → first_bad sizes c (premise_of q p) ≡ Some k → first_number None n (first_bad_child sizes (certs_of (drop i cs)) q ps) ≡ Some (n + k)
     bad_step n k e = rw (on_from, e) refl
-
--- ---- a bad node is one of the certificate
-
-from_some : (o : Outcome) (fit : List Premise → Bool) (go : List Premise → Option ℕ) (k : ℕ) → bad_node o fit go ≡ Some k → (k ≡ 1) ⊎ ((ps : List Premise) × (m : ℕ) × (go ps ≡ Some m) × (k ≡ 1 + m))
-from_some None fit go k e = inl (sym (same_Some _ _ e))
-from_some (Some ps) fit go k e = by_test (fit ps) (go ps) refl e
-  where
-    by_test : (b : Bool) (o : Option ℕ) → go ps ≡ o → (if b then first_number None 1 o else Some 1) ≡ Some k → (k ≡ 1) ⊎ ((ps : List Premise) × (m : ℕ) × (go ps ≡ Some m) × (k ≡ 1 + m))
-    by_test false o g e = inl (sym (same_Some _ _ e))
-    by_test true None g e = cc
-    by_test true (Some m) g e = inr (ps, m, g, sym (same_Some _ _ e))
-
-number_cases : (a : Option ℕ) (n : ℕ) (b : Option ℕ) (k : ℕ) → first_number a n b ≡ Some k → (a ≡ Some k) ⊎ ((m : ℕ) × (b ≡ Some m) × (k ≡ n + m))
-number_cases (Some j) n b k e = inl e
-number_cases None n None k e = cc
-number_cases None n (Some m) k e = inr (m, refl, sym (same_Some _ _ e))
-
-module _ (sizes : List ℕ) where
-  mutual
-    pub bad_within : (c : CertTree) (q : Claim) (k : ℕ) → first_bad sizes c q ≡ Some k → k ≤ cert_nodes c
-    bad_within (Node r cs) q k e =
-        elim (from_some (premises sizes r q) (are_as_many cs) (first_bad_child sizes cs q) k e) [
-          | inl one ↦ omega arith
-          | inr p ↦ omega (arith, p.3, all_within cs q p.0 p.1 p.2)
-        ]
-
-    all_within : (cs : CertTrees) (q : Claim) (ps : List Premise) (k : ℕ) → first_bad_child sizes cs q ps ≡ Some k → k ≤ certs_nodes cs
-    all_within End q ps k e = cc
-    all_within (More c cs) q [] k e = cc
-    all_within (More c cs) q (p ∷ ps) k e =
-        elim (number_cases (first_bad sizes c (premise_of q p)) (cert_nodes c) (first_bad_child sizes cs q ps) k e) [
-          | inl h ↦ omega (arith, bad_within c (premise_of q p) k h)
-          | inr m ↦ omega (arith, m.2, all_within cs q ps m.0 m.1)
-        ]

@@ -6,7 +6,7 @@ use Rattle.cb_seq.specs.declared.rule.Rule.{Rule}
 use Rattle.cb_seq.specs.declared.premise.Premise.{Premise}
 use Rattle.cb_seq.specs.Tree.{CertTree, Node, CertTrees, End, More}
 use Rattle.cb_seq.specs.Size.{cert_nodes}
-use Rattle.cb_seq.specs.Arguments.{arguments_fit}
+use Rattle.cb_seq.specs.Arguments.{arguments_fit, rule_among}
 use Rattle.cb_seq.specs.Validity.{Claim}
 use Rattle.cb_seq.specs.Premises.{premise_of, Outcome, only_where}
 use Rattle.cb_check_logic.specs.LogicRules.{logic_premises}
@@ -43,8 +43,12 @@ rule_premises sizes r q =
     or_else (logic_premises sizes r q) (or_else (name_premises sizes r q) (or_else (number_premises sizes r q) (set_premises sizes r q)))
 
 -- the premises of a rule whose arguments fit, where it applies
+abbrev pub told_premises : List ℕ → Rule → Claim → Outcome
+told_premises sizes r q = if arguments_fit sizes q.names r then if_small q (rule_premises sizes r q) else None
+
+-- the premises of a rule. Its terms have the kinds that they have among the names of the claim
 abbrev pub premises : List ℕ → Rule → Claim → Outcome
-premises sizes r q = if arguments_fit sizes q.names r then if_small q (rule_premises sizes r q) else None
+premises sizes r q = told_premises sizes (rule_among sizes q.names r) q
 
 -- ---- certificates
 

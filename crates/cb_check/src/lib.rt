@@ -1,7 +1,6 @@
 //! The checker of certificates: a certificate that it accepts derives the sequent, and what is derived is valid.
 #![tactic(auto)]
 
-pub mod count;
 pub mod laws;
 pub mod premises;
 #[cfg(test)]

@@ -7,17 +7,21 @@ ghost use Rattle.cb_term.specs.Size.{formula_nodes};
 ghost use Rattle.cb_seq.specs.Premises.{claim_at, premise_of, or_goal};
 ghost use Rattle.cb_seq.specs.Validity.{Claim};
 ghost use Rattle.cb_check.specs.Derives as spec;
-ghost use Rattle.cb_check.specs.Ways.{capped, AreCounts};
+ghost use Rattle.cb_seq.specs.Arguments.{rule_among};
+ghost use Rattle.cb_check.specs.Ways.{capped, AreCounts, first_or};
 
 use cb_check_logic::premises::logic_premises;
 use cb_check_names::premises::name_premises;
 use cb_check_numbers::premises::number_premises;
 use cb_check_sets::premises::set_premises;
+use cb_seq::among::rule_among as among;
 use cb_seq::kinds::arguments_fit;
 use cb_seq::premise::{Premise, Premises, SequentRef};
 use cb_seq::rule::Rule;
 use cb_term::Memory;
 use cb_term::count::nodes;
+use cb_term::kind::Kind;
+use cb_term::name::Name;
 use cb_term::table::SetTable;
 use cb_term::tree::Formula;
 use std::alloc::Global;
@@ -103,6 +107,42 @@ fn rule_premises(
     set_premises(alloc, sets, sequent, rule)
 }
 
+// The premises of a rule whose terms are told their kinds.
+fn told_premises(
+    alloc: Global,
+    sets: &SetTable,
+    sequent: &SequentRef,
+    counts: Counts,
+    rule: &Rule,
+) -> Result<Option<Premises>, Memory>
+    requires { AreCounts counts (claim_at sequent.now) }
+    ensures { IfOk result (λ o. o ≡ spec.told_premises (sizes_of sets.now) rule.now (claim_at sequent.now)) }
+{
+    if !arguments_fit(alloc, sets, sequent.names, rule)? {
+        return Ok(None);
+    }
+    match rule_premises(alloc, sets, sequent, rule)? {
+        Some(premises) if are_small(counts, &premises) => Ok(Some(premises)),
+        _ => Ok(None),
+    }
+}
+
+// The rule with the kinds of its terms, where it takes terms.
+fn rules_among(
+    alloc: Global,
+    sets: &SetTable,
+    names: &[(Name, Kind)],
+    rule: &Rule,
+) -> Result<Vec<Rule>, Memory>
+    ensures { IfOk result (λ v. first_or rule.now v.items ≡ rule_among (sizes_of sets.now) names.now rule.now) }
+{
+    let mut rules = Vec::new(alloc);
+    if let Some(told) = among(alloc, sets, names, rule)? {
+        rules.push(told)?;
+    }
+    Ok(rules)
+}
+
 /// The premises of a rule that is applied to a sequent with these counts. None where it does not apply, where an argument does not
 /// fit, and where a premise has more than 40,000 nodes.
 pub(crate) fn premises(
@@ -115,11 +155,9 @@ pub(crate) fn premises(
     requires { AreCounts counts (claim_at sequent.now) }
     ensures { IfOk result (λ o. o ≡ spec.premises (sizes_of sets.now) rule.now (claim_at sequent.now)) }
 {
-    if !arguments_fit(alloc, sets, sequent.names, rule)? {
-        return Ok(None);
-    }
-    match rule_premises(alloc, sets, sequent, rule)? {
-        Some(premises) if are_small(counts, &premises) => Ok(Some(premises)),
-        _ => Ok(None),
+    let rules = rules_among(alloc, sets, sequent.names, rule)?;
+    match rules.first() {
+        Some(told) => told_premises(alloc, sets, sequent, counts, told),
+        None => told_premises(alloc, sets, sequent, counts, rule),
     }
 }

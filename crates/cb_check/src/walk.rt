@@ -1,10 +1,9 @@
 //! The walk over a certificate. It keeps one list of names and one of hypotheses, which grow on the way down and shrink on the way up.
 
-ghost use Rattle.std.specs.Prelude.{◌≡◌, ◌<◌, ◌^◌, take, IfOk, OnOk, IfErr};
+ghost use Rattle.std.specs.Prelude.{◌≡◌, take, IfOk, OnOk, IfErr};
 ghost use Rattle.cb_term.specs.Table.{sizes_of};
 ghost use Rattle.cb_term.specs.Tree.{FormulaTree};
 ghost use Rattle.cb_seq.specs.Premises.{premise_of, or_goal};
-ghost use Rattle.cb_seq.specs.Size.{cert_nodes};
 ghost use Rattle.cb_seq.specs.Validity.{claim_of};
 ghost use Rattle.cb_check.specs.Derives.{Derives};
 ghost use Rattle.cb_check.specs.Ways.{claim_on, AreCounts, IsAfter, IsAsBefore, Tells, Refuses};
@@ -25,7 +24,8 @@ use std::alloc::Global;
 /// Why a certificate is refused.
 #[derive(Clone, Copy, Debug, PartialEq, Eq)]
 pub enum CheckFault {
-    /// This is the first node, in preorder from 1, whose rule does not apply or has another number of premises.
+    /// This is the first node, in preorder from 1, whose rule does not apply or has another number of premises. 2^64 - 1 stands
+    /// for every greater number.
     Bad { node: u64 },
     /// Want of memory.
     Memory,
@@ -125,8 +125,7 @@ fn walk_over(
     counts: Counts,
     cert: &Cert,
 ) -> Result<Walk, Memory>
-    requires counted { AreCounts counts (claim_on way.old goal.now) }
-    requires few { cert_nodes cert.now < 2 ^ 32 }
+    requires { AreCounts counts (claim_on way.old goal.now) }
     ensures tells { IfOk result (λ w. Tells (sizes_of sets.now) w cert.now (claim_on way.old goal.now)) }
     ensures kept { OnOk result (IsAsBefore way.old way.new) }
 {
@@ -150,8 +149,8 @@ fn walk_over(
         let told = walk_over(alloc, sets, way, entered.aim(goal), inner, child)?;
         way.leave(entered);
         match told {
-            Walk::Fine(nodes) => met += nodes,
-            Walk::Bad(node) => return Ok(Walk::Bad(met + node)),
+            Walk::Fine(nodes) => met = met.saturating_add(nodes),
+            Walk::Bad(node) => return Ok(Walk::Bad(met.saturating_add(node))),
         }
     }
     Ok(Walk::Fine(met))
@@ -163,7 +162,6 @@ fn walk_from_root(
     sequent: &Sequent,
     cert: &Cert,
 ) -> Result<Walk, Memory>
-    requires { cert_nodes cert.now < 2 ^ 32 }
     ensures { IfOk result (λ w. Tells (sizes_of sets.now) w cert.now (claim_of sequent.now)) }
 {
     let counts = Counts {
@@ -174,7 +172,7 @@ fn walk_from_root(
     walk_over(alloc, sets, &mut way, &sequent.goal, counts, cert)
 }
 
-/// Whether the certificate derives the sequent. A certificate has fewer than 2^32 nodes.
+/// Whether the certificate derives the sequent.
 ///
 /// # Errors
 /// `Bad` where it does not derive it, with its first bad node; `Memory`.
@@ -184,7 +182,6 @@ pub fn check(
     sequent: &Sequent,
     cert: &Cert,
 ) -> Result<(), CheckFault>
-    requires { cert_nodes cert.now < 2 ^ 32 }
     ensures derived { OnOk result (Derives (sizes_of sets.now) cert.now (claim_of sequent.now)) }
     ensures refused { IfErr result (λ fault. Refuses (sizes_of sets.now) fault cert.now (claim_of sequent.now)) }
 {

@@ -125,6 +125,7 @@ module _ (sizes : List ℕ) (q : Claim) (kinded : Kinded sizes q) where
       go v (below_value sizes l k v (counts_below l k counts) of_l) (holds_open sizes look t v (kind_closed sizes q.names t [] l et 0 refl) iv f))
 
   exist_right_sound : (a : TermArgument) (ps : List Premise) → term_fits sizes q.names a ≡ true → exist_right a q.goal ≡ Some ps → Carry sizes q ps
+  exist_right_sound (term.Read r) ps fit e = absurd (not_so fit)
   exist_right_sound term.Unclear ps fit e = absurd (not_so fit)
   exist_right_sound (term.Term t l) ps fit e = by_goal q.goal refl e
     where
@@ -139,6 +140,7 @@ module _ (sizes : List ℕ) (q : Claim) (kinded : Kinded sizes q) where
       by_goal g i e = absurd (no_premises e)
 
   all_left_sound : (h : ℕ) (a : TermArgument) (ps : List Premise) → term_fits sizes q.names a ≡ true → all_left a (hypothesis q.hypotheses h) ≡ Some ps → Carry sizes q ps
+  all_left_sound h (term.Read r) ps fit e = absurd (not_so fit)
   all_left_sound h term.Unclear ps fit e = absurd (not_so fit)
   all_left_sound h (term.Term t l) ps fit e = by_formula (hypothesis q.hypotheses h) refl e
     where

@@ -176,6 +176,7 @@ module _ (sizes : List ℕ) (q : Claim) (kinded : Kinded sizes q) where
       by_goal g i e = absurd (no_premises e)
 
   subset_left_sound : (h : ℕ) (a : TermArgument) (ps : List Premise) → term_fits sizes q.names a ≡ true → subset_left sizes q.names a (hypothesis q.hypotheses h) ≡ Some ps → Carry sizes q ps
+  subset_left_sound h (term.Read r) ps fit e = absurd (not_so fit)
   subset_left_sound h term.Unclear ps fit e = absurd (not_so fit)
   subset_left_sound h (term.Term t k) ps fit e = by_formula (hypothesis q.hypotheses h) refl e
     where
@@ -213,6 +214,7 @@ module _ (sizes : List ℕ) (q : Claim) (kinded : Kinded sizes q) where
   -- ---- how many items a set has
 
   not_negative_sound : (a : TermArgument) (ps : List Premise) → term_fits sizes q.names a ≡ true → card_not_negative a ≡ Some ps → Carry sizes q ps
+  not_negative_sound (term.Read r) ps fit e = absurd (not_so fit)
   not_negative_sound term.Unclear ps fit e = absurd (not_so fit)
   not_negative_sound (term.Term s k) ps fit e =
       let p = only_tells (is_set (Some k)) _ ps e in
@@ -221,7 +223,9 @@ module _ (sizes : List ℕ) (q : Claim) (kinded : Kinded sizes q) where
       subst (Carry sizes q) p.1 (adds _ (card_fits sizes q.names s k es set.1) (λ look gives hyps. size_not_negative sizes look q.names gives s k es set.0))
 
   added_sound : (a b : TermArgument) (ps : List Premise) → (term_fits sizes q.names a && term_fits sizes q.names b) ≡ true → card_added a b ≡ Some ps → Carry sizes q ps
+  added_sound (term.Read r) b ps fit e = absurd (not_so fit)
   added_sound term.Unclear b ps fit e = absurd (not_so fit)
+  added_sound (term.Term s k) (term.Read r) ps fit e = absurd (no_premises e)
   added_sound (term.Term s k) term.Unclear ps fit e = absurd (no_premises e)
   added_sound (term.Term s k) (term.Term t l) ps fit e =
       let p = only_tells (rel_kinds Member l k) _ ps e in
@@ -232,7 +236,9 @@ module _ (sizes : List ℕ) (q : Claim) (kinded : Kinded sizes q) where
       subst (Carry sizes q) p.1 (proves_adds (Not (Rel Member t s)) _ inside (added_fits sizes q.names s t k l es et p.0) (λ look gives. size_added sizes look q.names gives s t inside))
 
   removed_sound : (a b : TermArgument) (ps : List Premise) → (term_fits sizes q.names a && term_fits sizes q.names b) ≡ true → card_removed a b ≡ Some ps → Carry sizes q ps
+  removed_sound (term.Read r) b ps fit e = absurd (not_so fit)
   removed_sound term.Unclear b ps fit e = absurd (not_so fit)
+  removed_sound (term.Term s k) (term.Read r) ps fit e = absurd (no_premises e)
   removed_sound (term.Term s k) term.Unclear ps fit e = absurd (no_premises e)
   removed_sound (term.Term s k) (term.Term t l) ps fit e =
       let p = only_tells (rel_kinds Member l k) _ ps e in
@@ -243,7 +249,9 @@ module _ (sizes : List ℕ) (q : Claim) (kinded : Kinded sizes q) where
       subst (Carry sizes q) p.1 (proves_adds (Rel Member t s) _ inside (removed_fits sizes q.names s t k l es et p.0) (λ look gives. size_removed sizes look q.names gives s t inside))
 
   within_sound : (a b : TermArgument) (ps : List Premise) → (term_fits sizes q.names a && term_fits sizes q.names b) ≡ true → card_within a b ≡ Some ps → Carry sizes q ps
+  within_sound (term.Read r) b ps fit e = absurd (not_so fit)
   within_sound term.Unclear b ps fit e = absurd (not_so fit)
+  within_sound (term.Term s k) (term.Read r) ps fit e = absurd (no_premises e)
   within_sound (term.Term s k) term.Unclear ps fit e = absurd (no_premises e)
   within_sound (term.Term s k) (term.Term t l) ps fit e =
       let p = only_tells (rel_kinds Subset k l) _ ps e in

@@ -97,6 +97,7 @@ only t = Listed (More t End)
 -- CARDPOS
 abbrev pub card_not_negative : TermArgument → Outcome
 card_not_negative (term.Term s k) = only_where (is_set (Some k)) (adding (Rel AtMost (Num (pos 0)) (Card s) ∷ []) ∷ [])
+card_not_negative (term.Read t) = None
 card_not_negative term.Unclear = None
 
 -- CARDADD

@@ -277,7 +277,7 @@ fn card_not_negative(alloc: Global, set: &TermArgument) -> Result<Option<Premise
                 Ok(None)
             }
         }
-        TermArgument::Unclear => Ok(None),
+        TermArgument::Read(_) | TermArgument::Unclear => Ok(None),
     }
 }
 

@@ -1,6 +1,9 @@
 pub mod Laws
 pub mod Lexes
 pub mod Lexis
+pub mod RawCertCodes
+pub mod RawCertFalls
+pub mod RawCertTree
 pub mod RawProcessCodes
 pub mod RawProcessFalls
 pub mod RawProcessTree

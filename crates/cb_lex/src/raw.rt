@@ -4,6 +4,7 @@ pub mod domain;
 pub mod event;
 pub mod name;
 pub mod process;
+pub mod proof;
 pub mod sign;
 pub mod subst;
 pub mod term;

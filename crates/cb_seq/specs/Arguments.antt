@@ -10,6 +10,7 @@ use Rattle.cb_seq.specs.declared.rule.TermArgument.{TermArgument}
 use Rattle.cb_seq.specs.declared.rule.TermArgument.TheVariants as term
 use Rattle.cb_seq.specs.declared.rule.Rule.{Rule}
 use Rattle.cb_seq.specs.declared.rule.Rule.TheVariants as rule
+use Rattle.cb_term.specs.Tree.{TermTree}
 use Rattle.cb_seq.specs.Kinds.{kind_of, fits}
 
 abbrev pub formula_fits : List ℕ → List (Name × Kind) → FormulaArgument → Bool
@@ -23,6 +24,7 @@ is_kind k (Some l) = same_kind l k
 -- the term has the kind that is written with it
 abbrev pub term_fits : List ℕ → List (Name × Kind) → TermArgument → Bool
 term_fits sizes names (term.Term t k) = is_kind k (kind_of sizes names [] t)
+term_fits sizes names (term.Read t) = false
 term_fits sizes names term.Unclear = false
 
 abbrev pub arguments_fit : List ℕ → List (Name × Kind) → Rule → Bool
@@ -41,6 +43,39 @@ arguments_fit sizes names (rule.CardAdd s t) = term_fits sizes names s && term_f
 arguments_fit sizes names (rule.CardDel s t) = term_fits sizes names s && term_fits sizes names t
 arguments_fit sizes names (rule.CardSub s t) = term_fits sizes names s && term_fits sizes names t
 arguments_fit sizes names r = true
+
+-- ---- terms that are read
+
+-- the term with its kind, where it has one
+abbrev pub with_kind : TermTree → Option Kind → TermArgument
+with_kind t None = term.Unclear
+with_kind t (Some k) = term.Term t k
+
+-- a term that is read has the kind that it has among the names
+abbrev pub argument_among : List ℕ → List (Name × Kind) → TermArgument → TermArgument
+argument_among sizes names (term.Read t) = with_kind t (kind_of sizes names [] t)
+argument_among sizes names (term.Term t k) = term.Term t k
+argument_among sizes names term.Unclear = term.Unclear
+
+abbrev pub rule_among : List ℕ → List (Name × Kind) → Rule → Rule
+rule_among sizes names (rule.ExR t) = rule.ExR (argument_among sizes names t)
+rule_among sizes names (rule.AllL h t) = rule.AllL h (argument_among sizes names t)
+rule_among sizes names (rule.BoolCases t) = rule.BoolCases (argument_among sizes names t)
+rule_among sizes names (rule.Elems t) = rule.Elems (argument_among sizes names t)
+rule_among sizes names (rule.Split s t) = rule.Split (argument_among sizes names s) (argument_among sizes names t)
+rule_among sizes names (rule.DivMod t d) = rule.DivMod (argument_among sizes names t) d
+rule_among sizes names (rule.MulSign s t) = rule.MulSign (argument_among sizes names s) (argument_among sizes names t)
+rule_among sizes names (rule.SubsetL h t) = rule.SubsetL h (argument_among sizes names t)
+rule_among sizes names (rule.CardPos s) = rule.CardPos (argument_among sizes names s)
+rule_among sizes names (rule.CardAdd s t) = rule.CardAdd (argument_among sizes names s) (argument_among sizes names t)
+rule_among sizes names (rule.CardDel s t) = rule.CardDel (argument_among sizes names s) (argument_among sizes names t)
+rule_among sizes names (rule.CardSub s t) = rule.CardSub (argument_among sizes names s) (argument_among sizes names t)
+rule_among sizes names r = r
+
+-- the rule, where no other stands for it
+abbrev pub or_itself : Rule → Option Rule → Rule
+or_itself r None = r
+or_itself r (Some told) = told
 
 -- a value of the first kind is one of the second
 abbrev pub counts_as : Kind → Kind → Bool

@@ -285,7 +285,7 @@ fn term_fits(
             Some(found) => Ok(found.is_same(*kind)),
             None => Ok(false),
         },
-        TermArgument::Unclear => Ok(false),
+        TermArgument::Read(_) | TermArgument::Unclear => Ok(false),
     }
 }
 

@@ -2,6 +2,7 @@
 //! is valid.
 #![tactic(auto)]
 
+pub mod among;
 pub mod cert;
 pub mod kinds;
 pub mod laws;

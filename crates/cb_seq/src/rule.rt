@@ -16,6 +16,8 @@ pub enum FormulaArgument {
 #[derive(Drop)]
 pub enum TermArgument {
     Term { term: Term, kind: Kind },
+    /// A term as it is read, before its kind among the names of a sequent is told.
+    Read(Term),
     /// What is written is no term among the names of the sequent.
     Unclear,
 }

@@ -1,23 +1,45 @@
 -- What a request answers on the bytes of its files: a status, and what is printed.
-use Rattle.std.specs.Prelude.{◌≡◌, ℕ, ◌≤◌, ◌<◌, false, List, [], ◌∷◌, ◌++◌, length, codes, Ok, Err}
+use Rattle.std.specs.Prelude.{◌≡◌, ℕ, zero, suc, ◌==◌, ◌≤◌, ◌<◌, false, true, ◌+◌, List, [], ◌∷◌, ◌++◌, length, drop, codes, Ok, Err, Some, None, if◌then◌else◌, ⊤}
 use Rattle.std.specs.Fmt.{decimal}
+use Rattle.cb_term.specs.Table.{sizes_of}
 use Rattle.cb_lex.specs.Lexes.{Lexes, start}
 use Rattle.cb_lex.specs.declared.lexer.LexFault.{LexFault}
 use Rattle.cb_lex.specs.declared.lexer.LexFault.TheVariants.{BadByte, LongNumber, OpenComment, Memory}
+use Rattle.cb_lex.specs.declared.raw.proof.RawProof.{RawProof}
+use Rattle.cb_lex.specs.declared.raw.text.RawText.{RawText}
 use Rattle.cb_lex.specs.declared.token.Place.{Place}
 use Rattle.cb_lex.specs.declared.token.Token.{Token}
-use Rattle.cb_engine.specs.declared.Item.{Item}
-use Rattle.cb_grammar.specs.Misreadings.{IsRead, Misread}
+use Rattle.cb_grammar.specs.Misreadings.{Misread}
 use Rattle.cb_grammar.specs.declared.parts.Part.TheVariants as part
 use Rattle.cb_grammar.specs.declared.reading.SyntaxFault.{SyntaxFault}
 use Rattle.cb_grammar.specs.declared.reading.SyntaxFault.TheVariants as syntax
+use Rattle.cb_amn_parse.specs.Processes.{text_out}
+use Rattle.cb_amn_parse.specs.Proofs.{proofs_out}
+use Rattle.cb_amn_parse.specs.Spelling.{SpellsFrom}
+use Rattle.cb_forms.specs.declared.fault.Fault.{Fault}
+use Rattle.cb_spec.specs.declared.system.System.{System}
+use Rattle.cb_types.specs.Whole.{WellFormed, FirstFault, IsSystemOf}
+use Rattle.cb_typing.specs.WrittenText.{IsWrittenText}
+use Rattle.cb_seq.specs.declared.sequent.ObName.{ObName}
+use Rattle.cb_seq.specs.declared.sequent.Obligation.{Obligation}
+use Rattle.cb_wp.specs.declared.limits.Which.{Which}
+use Rattle.cb_wp.specs.declared.limits.Which.TheVariants as which
+use Rattle.cb_arguments.specs.Scopes.{symbols_of}
+use Rattle.cb_trace.specs.Texts.{obligation_text, listing_text, open_count, verdict_text}
+use Rattle.cb_trace.specs.declared.verdict.Verdict.{Verdict}
+use Rattle.cb_verdicts.specs.declared.places.ProofFault.{ProofFault}
+use Rattle.cb_verdicts.specs.declared.places.ProofFault.TheVariants as wrong
+use Rattle.cb_verdicts.specs.Owed.{AreOwed, first_limit}
+use Rattle.cb_verdicts.specs.Proofs.{keys_of, first_wrong}
+use Rattle.cb_verdicts.specs.Verdicts.{verdicts}
 use Rattle.cb_words.specs.declared.request.Request.{Request}
-use Rattle.cb_top.specs.declared.outcome.Verdict.{Verdict}
-use Rattle.cb_top.specs.declared.outcome.Verdict.TheVariants.{AllProved, SomeOpen}
+use Rattle.cb_words.specs.declared.request.Request.TheVariants as request
+use Rattle.cb_top.specs.declared.outcome.Ending.{Ending}
+use Rattle.cb_top.specs.declared.outcome.Ending.TheVariants.{Done, Open}
 use Rattle.cb_top.specs.declared.outcome.Refusal.{Refusal}
 use Rattle.cb_top.specs.declared.outcome.Refusal.TheVariants.{IllFormed, Limit}
 use Rattle.cb_top.specs.declared.outcome.Outcome.{Outcome}
-use Rattle.cb_top.specs.declared.outcome.Outcome.TheVariants.{Text, Fault}
+use Rattle.cb_top.specs.declared.outcome.Outcome.TheVariants as outcome
 use Rattle.cb_top.specs.declared.TheConstants.{MAX_BYTES}
 
 -- the status, the bytes for `out` and the bytes for `err`
@@ -26,17 +48,17 @@ pub record Answer : Type 0 where
   pub out : List ℕ
   pub err : List ℕ
 
-abbrev pub verdict_status : Verdict → ℕ
-verdict_status AllProved = 0
-verdict_status SomeOpen = 1
+abbrev pub ending_status : Ending → ℕ
+ending_status Done = 0
+ending_status Open = 1
 
 abbrev pub refusal_status : Refusal → ℕ
 refusal_status IllFormed = 2
 refusal_status Limit = 7
 
 abbrev pub answer_of : Outcome → Answer
-answer_of (Text verdict text) = record { status = verdict_status verdict; out = text.items; err = [] }
-answer_of (Fault refusal line) = record { status = refusal_status refusal; out = []; err = line.items }
+answer_of (outcome.Text ending text) = record { status = ending_status ending; out = text.items; err = [] }
+answer_of (outcome.Fault refusal line) = record { status = refusal_status refusal; out = []; err = line.items }
 
 abbrev pub line_of : List ℕ → List ℕ
 line_of text = text ++ 10 ∷ []
@@ -76,20 +98,104 @@ syntax_answer (syntax.Mixed place) = ill_formed (codes "Mixed ") (place_text pla
 syntax_answer (syntax.Deep place) = ill_formed (codes "Deep ") (place_text place)
 syntax_answer syntax.Memory = record { status = 6; out = []; err = memory_line }
 
--- What may be answered on the tokens of a whole text. Which texts can be judged isn't said, nor which verdicts are right.
-pub data IsJudged (request : Request) (tokens : List Token) (answer : Answer) : Type 0 where
-  unread : answer ≡ ill_formed (codes "Form") [] → IsJudged request tokens answer
-  unknown_proof : (name : List ℕ) → answer ≡ ill_formed (codes "UnknownProof ") name → IsJudged request tokens answer
-  double_proof : (name : List ℕ) → answer ≡ ill_formed (codes "DoubleProof ") name → IsJudged request tokens answer
-  verdicts : (verdict : Verdict) (text : List ℕ) → answer ≡ record { status = verdict_status verdict; out = text; err = [] } → IsJudged request tokens answer
+-- ---- texts of machines
 
--- what may be answered to a request on these tokens: the first fault of the syntax, or what is judged of a whole text
-pub data IsReadAndJudged (request : Request) (tokens : List Token) (answer : Answer) : Type 0 where
-  refused : (fault : SyntaxFault) → Misread part.Whole 0 false tokens fault → answer ≡ syntax_answer fault → IsReadAndJudged request tokens answer
-  spelled : (taken : ℕ) (items : List Item) → IsRead part.Whole 0 false tokens taken items → IsJudged request tokens answer → IsReadAndJudged request tokens answer
+-- the names of the codes that a text of machines may have
+abbrev pub code_names : List (ℕ × List ℕ)
+code_names =
+    (1, codes "DoubleName") ∷ (2, codes "UnknownName") ∷ (3, codes "NoDomain") ∷ (4, codes "DoubleDomain") ∷ (5, codes "KindClash")
+    ∷ (6, codes "TooWide") ∷ (7, codes "BadDivisor") ∷ (8, codes "SharedWrite") ∷ (9, codes "MissingResult") ∷ (10, codes "DoubleResult")
+    ∷ (11, codes "BigDomain") ∷ (12, codes "BigSet") ∷ (22, codes "ArgCount") ∷ []
+
+abbrev pub name_in : List (ℕ × List ℕ) → ℕ → List ℕ
+name_in [] k = []
+name_in (n ∷ ns) k = if k == n.0 then n.1 else name_in ns k
+
+-- the code as it is printed, as `W8 SharedWrite `
+abbrev pub code_text : ℕ → List ℕ
+code_text k = codes "W" ++ decimal k ++ codes " " ++ name_in code_names k ++ codes " "
+
+abbrev pub ill_answer : Fault → Answer
+ill_answer f = ill_formed (code_text f.code) (place_text f.place)
+
+abbrev pub which_word : Which → List ℕ
+which_word which.Controllers = codes "controllers"
+which_word which.Branches = codes "branches"
+which_word which.Visits = codes "visits"
+which_word which.Obligations = codes "obligations"
+which_word which.Sequent = codes "sequent"
+which_word which.Nodes = codes "nodes"
+
+abbrev pub limit_answer : List ℕ → Answer
+limit_answer word = record { status = 7; out = []; err = line_of (codes "fault limit " ++ word) }
+
+-- the answer to a proof that is of no obligation, or of one that an earlier proof is of (want of memory is none)
+abbrev pub proof_answer : ProofFault → Answer
+proof_answer (wrong.Unknown n) = ill_formed (codes "UnknownProof ") (obligation_text n)
+proof_answer (wrong.Double n) = ill_formed (codes "DoubleProof ") (obligation_text n)
+proof_answer wrong.Memory = record { status = 6; out = []; err = memory_line }
+
+-- want of memory is no wrong proof
+abbrev pub IsWrongProof : ProofFault → Type 0
+IsWrongProof wrong.Memory = ⊥
+IsWrongProof f = ⊤
+
+-- 0 where none is open, else 1
+abbrev pub open_status : ℕ → ℕ
+open_status zero = 0
+open_status (suc k) = 1
+
+abbrev pub verdict_answer : List (ObName × Verdict) → Answer
+verdict_answer ls = record { status = open_status (open_count ls); out = verdict_text ls; err = [] }
+
+-- the answer on these obligations of a system, each with at most one proof
+abbrev pub answer_to : Request → System → List Obligation → List RawProof → Answer
+answer_to (request.List files) y os ps = record { status = 0; out = listing_text y.sets.sets.items os; err = [] }
+answer_to (request.Check files) y os ps = verdict_answer (verdicts (sizes_of y.sets) (symbols_of y) ps os)
+
+-- the first wrong proof is told; else all are judged
+pub data IsAnswered (asked : Request) (y : System) (os : List Obligation) (ps : List RawProof) (answer : Answer) : Type 0 where
+  wrong_proof : (f : ProofFault) → first_wrong (keys_of os) [] ps ≡ Some f → answer ≡ proof_answer f → IsAnswered asked y os ps answer
+  right_proofs : first_wrong (keys_of os) [] ps ≡ None → answer ≡ answer_to asked y os ps → IsAnswered asked y os ps answer
+
+-- What is judged: a text of machines alone, with nothing empty that may not be, and nothing that 32 bits can't count. A text that is
+-- spelled in 4,194,304 bytes has nothing else wrong than controllers, but that is not shown.
+pub record IsJudgeable (t : RawText) : Type 0 where
+  pub machines_alone : t.order ≡ None
+  pub written : IsWrittenText t.machines
+
+-- a system is made of the text's machines
+pub record IsWell (t : RawText) (y : System) : Type 0 where
+  pub judgeable : IsJudgeable t
+  pub well_formed : WellFormed t.machines
+  pub system : IsSystemOf t.machines y
+
+-- what may be answered on a text with its proofs
+pub data IsJudged (asked : Request) (t : RawText) (ps : List RawProof) (answer : Answer) : Type 0 where
+  unbuilt : (IsJudgeable t → ⊥) → answer ≡ ill_formed (codes "Form") [] → IsJudged asked t ps answer
+  ill : IsJudgeable t → (f : Fault) → FirstFault t.machines f → answer ≡ ill_answer f → IsJudged asked t ps answer
+  limited : (y : System) → IsWell t y → (w : Which) → first_limit y.machines ≡ Some w → answer ≡ limit_answer (which_word w) → IsJudged asked t ps answer
+  answered : (y : System) → IsWell t y → first_limit y.machines ≡ None → (os : List Obligation) → AreOwed y os → IsAnswered asked y os ps answer →
+      IsJudged asked t ps answer
+
+-- the tokens before this place spell the text: with the one there, which is the first PROOF or the end, nothing more of it is begun
+abbrev pub SpellsText : List Token → ℕ → RawText → Type 0
+SpellsText tokens at t = SpellsFrom part.Text 0 false tokens 0 (at + 1) (text_out t)
+
+-- the tokens from there on spell the proofs, in which opened names may stand
+abbrev pub SpellsProofs : List Token → ℕ → List RawProof → Type 0
+SpellsProofs tokens at ps = (to : ℕ) × SpellsFrom part.Proofs 0 true tokens at to (proofs_out ps)
+
+-- what may be answered to a request on these tokens: the first fault of the text's syntax, or of its proofs', or what is judged of them
+pub data IsReadAndJudged (asked : Request) (tokens : List Token) (answer : Answer) : Type 0 where
+  refused_text : (fault : SyntaxFault) → Misread part.Text 0 false tokens fault → answer ≡ syntax_answer fault → IsReadAndJudged asked tokens answer
+  refused_proofs : (at : ℕ) (t : RawText) → SpellsText tokens at t → (fault : SyntaxFault) → Misread part.Proofs 0 true (drop at tokens) fault →
+      answer ≡ syntax_answer fault → IsReadAndJudged asked tokens answer
+  spelled : (at : ℕ) (t : RawText) → SpellsText tokens at t → (ps : List RawProof) → SpellsProofs tokens at ps → IsJudged asked t ps answer →
+      IsReadAndJudged asked tokens answer
 
 -- what may be answered to a request on these bytes
-pub data IsOutcome (request : Request) (bytes : List ℕ) (answer : Answer) : Type 0 where
-  too_long : MAX_BYTES < length bytes → answer ≡ record { status = 7; out = []; err = line_of (codes "fault limit bytes") } → IsOutcome request bytes answer
-  lexical : length bytes ≤ MAX_BYTES → (fault : LexFault) → Lexes bytes start (Err fault) → answer ≡ lexical_answer fault → IsOutcome request bytes answer
-  cut : length bytes ≤ MAX_BYTES → (tokens : List Token) → Lexes bytes start (Ok tokens) → IsReadAndJudged request tokens answer → IsOutcome request bytes answer
+pub data IsOutcome (asked : Request) (bytes : List ℕ) (answer : Answer) : Type 0 where
+  too_long : MAX_BYTES < length bytes → answer ≡ limit_answer (codes "bytes") → IsOutcome asked bytes answer
+  lexical : length bytes ≤ MAX_BYTES → (fault : LexFault) → Lexes bytes start (Err fault) → answer ≡ lexical_answer fault → IsOutcome asked bytes answer
+  cut : length bytes ≤ MAX_BYTES → (tokens : List Token) → Lexes bytes start (Ok tokens) → IsReadAndJudged asked tokens answer → IsOutcome asked bytes answer

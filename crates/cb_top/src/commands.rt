@@ -1,14 +1,17 @@
 //! The calls that do all that the program does.
-ghost use Rattle.std.specs.Prelude.{◌≡◌, ◌≢◌, map, string_bytes, MatchOption, Some};
+ghost use Rattle.std.specs.Prelude.{◌≡◌, ◌≢◌, ℕ, List, map, string_bytes, MatchOption, Some};
 ghost use Rattle.cb_words.specs.Spelled.{spelled};
 ghost use Rattle.cb_top.specs.Change.{change, sources};
-ghost use Rattle.cb_top.specs.Joined.{CanBeRead};
+ghost use Rattle.cb_top.specs.Joined.{joined, AreHeld, CanBeRead};
+ghost use Rattle.cb_top.specs.Safe.{IsSafe};
+ghost use Rattle.cb_words.specs.declared.request.Request.TheVariants as variants;
 ghost use Rattle.cb_top.specs.Answers.{Answers, WordsAnswers};
 ghost use Rattle.cb_top.specs.Request.{names_of};
-ghost use Rattle.cb_top.specs.Outcome.{verdict_status, refusal_status};
+ghost use Rattle.cb_top.specs.Outcome.{ending_status, refusal_status};
 
 use crate::judge::answer;
-use crate::outcome::{Outcome, Refusal, Stop, Verdict};
+use crate::laws::accepted_is_safe;
+use crate::outcome::{Ending, Outcome, Refusal, Stop};
 use crate::print::{print_line, print_text};
 use cb_edge::{Files, Gate, Sink};
 use cb_words::{Request, WordsFault, words_of};
@@ -18,9 +21,9 @@ use std::thread::Threads;
 
 /// Does what the words of a command line say, and answers the status of the program.
 ///
-/// The status is 0 where all is proved and 1 where an obligation isn't, 2 where the text is ill formed, 3 where the
-/// words spell no request, 4 where a file can't be read, 5 where a write failed, 6 for want of memory, and 7 where the
-/// files have too many bytes. From 2 on a line on `err` says why; a text on `out` comes with 0, with 1, or cut with 5.
+/// The status is 0 where all is listed or proved and 1 where an obligation isn't proved, 2 where the text is ill formed, 3
+/// where the words spell no request, 4 where a file can't be read, 5 where a write failed, 6 for want of memory, and 7 where a
+/// limit is passed. From 2 on a line on `err` says why; a text on `out` comes with 0, with 1, or cut with 5.
 pub fn command<R: Threads + Wait + Sync, F: Files, K: Sink, E: Sink, G: Gate + Sync>(
     _rt: &R,
     alloc: Global,
@@ -55,10 +58,28 @@ pub fn quiet_command<F: Files, K: Sink, E: Sink>(
     ensures answers { Answers request.now (names_of request.now) (sources F.held F.faults files.old files.new)
         (change K.written K.faults out.old out.new) (change E.written E.faults err.old err.new) result }
     ensures reads { CanBeRead (F.sure files.old) (F.faults files.old) (names_of request.now) → result ≢ 4 }
+    ensures safe { (names : List (List ℕ)) → request.now ≡ variants.Check names → result ≡ 0 → (contents : List (List ℕ)) →
+        AreHeld (F.held files.old) (names_of request.now) contents → IsSafe (joined contents) }
+{
+    accepted_is_safe();
+    respond(alloc, request, files, out, err)
+}
+
+// Finds the answer to a request, and prints it.
+fn respond<F: Files, K: Sink, E: Sink>(
+    alloc: Global,
+    request: &Request,
+    files: &mut F,
+    out: &mut K,
+    err: &mut E,
+) -> u8
+    ensures answers { Answers request.now (names_of request.now) (sources F.held F.faults files.old files.new)
+        (change K.written K.faults out.old out.new) (change E.written E.faults err.old err.new) result }
+    ensures reads { CanBeRead (F.sure files.old) (F.faults files.old) (names_of request.now) → result ≢ 4 }
 {
     match answer(alloc, request, file_names(request), files) {
-        Ok(Outcome::Text { verdict, text }) => {
-            print_text(out, err, &text, status_of_verdict(verdict))
+        Ok(Outcome::Text { ending, text }) => {
+            print_text(out, err, &text, status_of_ending(ending))
         }
         Ok(Outcome::Fault { refusal, line }) => {
             print_line(err, &line, status_of_refusal(refusal))
@@ -72,16 +93,17 @@ pub fn quiet_command<F: Files, K: Sink, E: Sink>(
 fn file_names(request: &Request) -> &[String]
     ensures { map string_bytes result.now ≡ names_of request.now }
 {
-    let Request::Check { files } = request;
-    files.as_slice()
+    match request {
+        Request::List { files } | Request::Check { files } => files.as_slice(),
+    }
 }
 
-fn status_of_verdict(verdict: Verdict) -> u8
-    ensures { result ≡ verdict_status verdict }
+fn status_of_ending(ending: Ending) -> u8
+    ensures { result ≡ ending_status ending }
 {
-    match verdict {
-        Verdict::AllProved => 0,
-        Verdict::SomeOpen => 1,
+    match ending {
+        Ending::Done => 0,
+        Ending::Open => 1,
     }
 }
 

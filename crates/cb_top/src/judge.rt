@@ -1,20 +1,37 @@
 //! What a request answers on the bytes of its files.
-ghost use Rattle.std.specs.Prelude.{◌≡◌, ℕ, ◌≤◌, ◌<◌, List, [], length, map, string_bytes, IfOk, IfErr, slice_index_or};
+ghost use Rattle.std.specs.Prelude.{◌≡◌, ℕ, ◌≤◌, ◌<◌, true, false, List, [], length, map, string_bytes, IfOk, IfErr, slice_index_or};
 ghost use Rattle.cb_edge.specs.Edge.{StaysSure};
 ghost use Rattle.cb_top.specs.Change.{sources};
 ghost use Rattle.cb_top.specs.Joined.{joined, AreHeld};
 ghost use Rattle.cb_top.specs.Stop.{HasFileCause};
-ghost use Rattle.cb_top.specs.Outcome.{answer_of, ill_formed, place_text, syntax_answer, IsJudged, IsReadAndJudged, IsOutcome, read_line};
+ghost use Rattle.cb_words.specs.declared.request.Request.TheVariants as request;
+ghost use Rattle.cb_top.specs.Outcome.{answer_of, ill_formed, ill_answer, limit_answer, proof_answer, verdict_answer, place_text, syntax_answer, IsWrongProof, IsJudgeable, IsWell, SpellsText, IsAnswered, IsJudged, IsReadAndJudged, IsOutcome, read_line};
 
 use crate::MAX_BYTES;
-use crate::outcome::{Outcome, Refusal, Stop};
+use crate::code::{code_name, which_word};
+use crate::outcome::{Ending, Outcome, Refusal, Stop};
 use crate::sources::{Unread, read_files};
-use crate::thin::{Judged, judge};
+use cb_arguments::scope::symbols;
+use cb_cert::reading::proofs;
+use cb_csp_parse::reading::text;
 use cb_edge::Files;
-use cb_grammar::{Part, SyntaxFault, read_part};
+use cb_grammar::SyntaxFault;
 use cb_lex::lexer::{LexFault, tokens};
+use cb_lex::raw::proof::RawProof;
+use cb_lex::raw::text::RawText;
 use cb_lex::token::{Place, Token};
+use cb_seq::sequent::{ObName, Obligation};
+use cb_spec::system::System;
+use cb_trace::listing::listing_text;
+use cb_trace::verdict::{Verdict, open_count, verdict_text};
+use cb_types::well_formed::{IllFormed, well_formed};
+use cb_typing::written::is_written;
+use cb_verdicts::judge::verdicts;
+use cb_verdicts::names::key;
+use cb_verdicts::obligations::all_obligations;
+use cb_verdicts::places::{ProofFault, places};
 use cb_words::Request;
+use cb_wp::limits::MakeFault;
 use std::alloc::{AllocError, Global};
 
 /// The outcome of a request on its files, whose names are these.
@@ -52,11 +69,7 @@ fn unread_line(alloc: Global, names: &[String], place: usize) -> Result<Vec<u8>,
 fn too_long(alloc: Global, request: &Request) -> Result<Outcome, AllocError>
     ensures { IfOk result (λ o. (bytes : List ℕ) → MAX_BYTES < length bytes → IsOutcome request.now bytes (answer_of o)) }
 {
-    let line = b"fault limit bytes\n".to_vec(alloc)?;
-    Ok(Outcome::Fault {
-        refusal: Refusal::Limit,
-        line,
-    })
+    limit_fault(alloc, b"bytes")
 }
 
 // The outcome of bytes that are not too many.
@@ -77,8 +90,26 @@ fn judge_bytes(alloc: Global, request: &Request, bytes: &[u8]) -> Result<Outcome
 fn judge_tokens(alloc: Global, request: &Request, tokens: &[Token]) -> Result<Outcome, AllocError>
     ensures { IfOk result (λ o. IsReadAndJudged request.now tokens.now (answer_of o)) }
 {
-    match read_part(alloc, tokens, Part::Whole, 0, false) {
-        Ok(_written) => judge_text(alloc, request, tokens),
+    match text(alloc, tokens) {
+        Ok((raw, at)) => judge_with_proofs(alloc, request, tokens, &raw, at),
+        Err(fault) => misread(alloc, fault),
+    }
+}
+
+// The outcome of a text whose proofs begin at this token.
+fn judge_with_proofs(
+    alloc: Global,
+    request: &Request,
+    tokens: &[Token],
+    raw: &RawText,
+    at: usize,
+) -> Result<Outcome, AllocError>
+    requires spelled { SpellsText tokens.now at raw.now }
+    requires within { at < length tokens.now }
+    ensures { IfOk result (λ o. IsReadAndJudged request.now tokens.now (answer_of o)) }
+{
+    match proofs(alloc, tokens, at) {
+        Ok((all, _)) => judge_text(alloc, request, raw, all.as_slice()),
         Err(fault) => misread(alloc, fault),
     }
 }
@@ -95,16 +126,152 @@ fn misread(alloc: Global, fault: SyntaxFault) -> Result<Outcome, AllocError>
     }
 }
 
-// The outcome of the tokens of a text that the grammar spells.
-fn judge_text(alloc: Global, _request: &Request, tokens: &[Token]) -> Result<Outcome, AllocError>
-    ensures { IfOk result (λ o. IsJudged _request.now tokens.now (answer_of o)) }
+fn is_judgeable(text: &RawText) -> bool
+    ensures yes { result ≡ true → IsJudgeable text.now }
+    ensures no { result ≡ false → IsJudgeable text.now → ⊥ }
 {
-    match judge(alloc, tokens)? {
-        Judged::Verdicts { verdict, text } => Ok(Outcome::Text { verdict, text }),
-        Judged::Unread => fault(alloc, b"Form", b""),
-        Judged::UnknownProof(name) => fault(alloc, b"UnknownProof ", &name),
-        Judged::DoubleProof(name) => fault(alloc, b"DoubleProof ", &name),
+    match &text.order {
+        Some(_) => false,
+        None => is_written(text.machines.as_slice()),
     }
+}
+
+// The outcome of a text with its proofs.
+fn judge_text(
+    alloc: Global,
+    request: &Request,
+    text: &RawText,
+    proofs: &[RawProof],
+) -> Result<Outcome, AllocError>
+    ensures { IfOk result (λ o. IsJudged request.now text.now proofs.now (answer_of o)) }
+{
+    if !is_judgeable(text) {
+        return fault(alloc, b"Form", b"");
+    }
+    match well_formed(alloc, text) {
+        Ok(system) => judge_system(alloc, request, text, &system, proofs),
+        Err(IllFormed::Fault { code, place }) => coded_fault(alloc, code, place),
+        Err(IllFormed::Memory) => Err(AllocError),
+    }
+}
+
+// The outcome of a text that a system is made of.
+fn judge_system(
+    alloc: Global,
+    request: &Request,
+    _text: &RawText,
+    system: &System,
+    proofs: &[RawProof],
+) -> Result<Outcome, AllocError>
+    requires { IsWell _text.now system.now }
+    ensures { IfOk result (λ o. IsJudged request.now _text.now proofs.now (answer_of o)) }
+{
+    match all_obligations(alloc, system.machines.as_slice()) {
+        Ok(list) => judge_list(alloc, request, system, &list, proofs),
+        Err(MakeFault::Limit(which)) => limit_fault(alloc, which_word(which)),
+        Err(MakeFault::Memory) => Err(AllocError),
+    }
+}
+
+// The outcome of a list of obligations.
+fn judge_list(
+    alloc: Global,
+    request: &Request,
+    system: &System,
+    list: &[Obligation],
+    proofs: &[RawProof],
+) -> Result<Outcome, AllocError>
+    ensures { IfOk result (λ o. IsAnswered request.now system.now list.now proofs.now (answer_of o)) }
+{
+    match request {
+        Request::List { .. } => listing(alloc, system, list, proofs),
+        Request::Check { .. } => checking(alloc, system, list, proofs),
+    }
+}
+
+// The obligations, printed.
+fn listing(
+    alloc: Global,
+    system: &System,
+    list: &[Obligation],
+    proofs: &[RawProof],
+) -> Result<Outcome, AllocError>
+    ensures { IfOk result (λ o. (files : List (List ℕ)) → IsAnswered (request.List files) system.now list.now proofs.now (answer_of o)) }
+{
+    match places(alloc, list, proofs) {
+        Ok(_) => Ok(Outcome::Text {
+            ending: Ending::Done,
+            text: listing_text(alloc, &system.sets, list)?,
+        }),
+        Err(wrong) => proof_fault(alloc, wrong),
+    }
+}
+
+// The verdicts on the obligations, printed.
+fn checking(
+    alloc: Global,
+    system: &System,
+    list: &[Obligation],
+    proofs: &[RawProof],
+) -> Result<Outcome, AllocError>
+    ensures { IfOk result (λ o. (files : List (List ℕ)) → IsAnswered (request.Check files) system.now list.now proofs.now (answer_of o)) }
+{
+    let symbols = symbols(alloc, system)?;
+    match verdicts(alloc, &system.sets, &symbols, list, proofs) {
+        Ok(lines) => verdict_outcome(alloc, &lines),
+        Err(wrong) => proof_fault(alloc, wrong),
+    }
+}
+
+// The outcome of these verdicts.
+fn verdict_outcome(alloc: Global, lines: &[(ObName, Verdict)]) -> Result<Outcome, AllocError>
+    ensures { IfOk result (λ o. answer_of o ≡ verdict_answer lines.now) }
+{
+    let text = verdict_text(alloc, lines)?;
+    let ending = if open_count(lines) == 0 {
+        Ending::Done
+    } else {
+        Ending::Open
+    };
+    Ok(Outcome::Text { ending, text })
+}
+
+// The outcome of a proof that is of no obligation, or of one that an earlier proof is of.
+fn proof_fault(alloc: Global, wrong: ProofFault) -> Result<Outcome, AllocError>
+    ensures answer { IfOk result (λ o. answer_of o ≡ proof_answer wrong) }
+    ensures wrong { IfOk result (λ o. IsWrongProof wrong) }
+{
+    match wrong {
+        ProofFault::Unknown(name) => fault(alloc, b"UnknownProof ", &key(alloc, &name)?),
+        ProofFault::Double(name) => fault(alloc, b"DoubleProof ", &key(alloc, &name)?),
+        ProofFault::Memory => Err(AllocError),
+    }
+}
+
+// The outcome of a text with a fault of this code.
+fn coded_fault(alloc: Global, code: u8, place: Place) -> Result<Outcome, AllocError>
+    ensures { IfOk result (λ o. answer_of o ≡ ill_answer (record { code = code; place = place })) }
+{
+    let mut text = b"W".to_vec(alloc)?;
+    let digits = format!(in alloc; "{}", code)?;
+    text.extend_from_slice(digits.as_bytes())?;
+    text.push(b' ')?;
+    text.extend_from_slice(code_name(code))?;
+    text.push(b' ')?;
+    placed_fault(alloc, &text, place)
+}
+
+// The outcome of what passes a limit.
+fn limit_fault(alloc: Global, word: &[u8]) -> Result<Outcome, AllocError>
+    ensures { IfOk result (λ o. answer_of o ≡ limit_answer word.now) }
+{
+    let mut line = b"fault limit ".to_vec(alloc)?;
+    line.extend_from_slice(word)?;
+    line.push(b'\n')?;
+    Ok(Outcome::Fault {
+        refusal: Refusal::Limit,
+        line,
+    })
 }
 
 // The outcome of a text that is ill formed at a place.

@@ -1,14 +1,15 @@
 //! The commands, from the words of a command line to what is printed.
 #![tactic(auto)]
 
+mod code;
 mod commands;
 mod judge;
+pub mod laws;
 mod outcome;
 mod print;
 mod sources;
 #[cfg(test)]
 mod tests;
-mod thin;
 
 pub use commands::{command, quiet_command};
 

@@ -1,11 +1,13 @@
 //! What a request answers, before anything is printed.
 use std::alloc::AllocError;
 
-/// How far the obligations are proved.
+/// How a request that is answered by a text ends.
 #[derive(Clone, Copy, Debug, PartialEq, Eq)]
-pub(crate) enum Verdict {
-    AllProved,
-    SomeOpen,
+pub(crate) enum Ending {
+    /// All that was asked for is done.
+    Done,
+    /// An obligation is not proved.
+    Open,
 }
 
 /// Why a text was refused.
@@ -18,7 +20,7 @@ pub(crate) enum Refusal {
 /// A text for standard output, or a fault with its line.
 #[derive(Drop)]
 pub(crate) enum Outcome {
-    Text { verdict: Verdict, text: Vec<u8> },
+    Text { ending: Ending, text: Vec<u8> },
     Fault { refusal: Refusal, line: Vec<u8> },
 }
 

@@ -80,7 +80,7 @@ fn judges_texts(rt: HostRuntime) -> Result<(), Fail> {
         "INIT:Box:1 proved\nOP:Box:add:1 missing\nOP:Box:take:1 proved\nrefused: 1 of 3 obligations\n";
     let bad =
         "INIT:Box:1 proved\nOP:Box:add:1 bad 4\nOP:Box:take:1 proved\nrefused: 1 of 3 obligations\n";
-    let rows: [(&[&str], (u8, &str, &str)); 12] = [
+    let rows: [(&[&str], (u8, &str, &str)); 11] = [
         (&[HEAD, GUARD, TAIL, INIT, ADD, TAKE], (0, PROVED, "")),
         (&[HEAD, GUARD, TAIL, INIT, TAKE], (1, missing, "")),
         (&[HEAD, TAIL, INIT, ADD, TAKE], (1, bad, "")),
@@ -90,13 +90,7 @@ fn judges_texts(rt: HostRuntime) -> Result<(), Fail> {
             (2, "", "fault Syntax 1:29\n"),
         ),
         (
-            &[
-                "MACHINE M VARIABLES n INVARIANT n : 0..9 & n < 9 or n = 9 INITIALISATION n := 0 END",
-            ],
-            (2, "", "fault Mixed 1:50\n"),
-        ),
-        (
-            &["MACHINE M OPERATIONS o = CHOICE skip OR skip END END"],
+            &["CONTROLLER A START P PROCESSES P = SKIP END SYSTEM A END"],
             (2, "", "fault Form\n"),
         ),
         (
@@ -114,6 +108,42 @@ fn judges_texts(rt: HostRuntime) -> Result<(), Fail> {
     for (parts, wanted) in rows {
         let contents = vec![in alloc; joined(alloc, parts)?]?;
         run(&rt, alloc, contents, &["check", "box.txt"], &[], wanted)?;
+    }
+    Ok(())
+}
+
+#[test]
+fn lists_obligations(rt: HostRuntime) -> Result<(), Fail> {
+    let alloc = rt.alloc();
+    let rows: [(&str, (u8, &str, &str)); 4] = [
+        (
+            "MACHINE M VARIABLES n INVARIANT n : 0..9 INITIALISATION n := 0 OPERATIONS o = ANY z WHERE z : 1..3 & z > 5 THEN n := z END END",
+            (
+                0,
+                "INIT:M:1\n  G 0 : 0..9\nOP:M:o:1\n  H1 n : 0..9\n  H2 z#1 : 1..3\n  H3 5 < z#1\n  G z#1 : 0..9\nLIVE:M:o:1\n  H1 n : 0..9\n  G #z.(z : 1..3 & 5 < z)\n3 obligations\n",
+                "",
+            ),
+        ),
+        (
+            "MACHINE M VARIABLES n INVARIANT n : 0..9 & (n < 9 or n = 9) INITIALISATION n := 0 END",
+            (
+                0,
+                "INIT:M:1\n  G 0 : 0..9\nINIT:M:2\n  G 0 < 9 or 0 = 9\n2 obligations\n",
+                "",
+            ),
+        ),
+        (
+            "MACHINE M VARIABLES n INVARIANT n : 0..9 & n < 9 or n = 9 INITIALISATION n := 0 END",
+            (2, "", "fault Mixed 1:50\n"),
+        ),
+        (
+            "MACHINE M VARIABLES n INVARIANT n : 0..9 INITIALISATION n := 0 OPERATIONS o = n := n + 1 || n := 0 END",
+            (2, "", "fault W8 SharedWrite 1:93\n"),
+        ),
+    ];
+    for (text, wanted) in rows {
+        let contents = vec![in alloc; joined(alloc, &[text])?]?;
+        run(&rt, alloc, contents, &["list", "box.txt"], &[], wanted)?;
     }
     Ok(())
 }

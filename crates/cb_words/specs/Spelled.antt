@@ -5,24 +5,25 @@ use Rattle.std.specs.declared.option.Option.{Option}
 use Rattle.clap.specs.Words.{Kinds, fault_of, matches_of, first_of, all_of}
 use Rattle.cb_words.specs.Line.{line_app}
 use Rattle.cb_words.specs.declared.request.Request.{Request}
-use Rattle.cb_words.specs.declared.request.Request.TheVariants.{Check}
+use Rattle.cb_words.specs.declared.request.Request.TheVariants as request
 
--- `check`: one file at least, and neither a limit nor a seed
-abbrev pub check_by : List (List ℕ) → Option (List ℕ) → Option (List ℕ) → Option Request
-check_by (file ∷ files) None None = Some (Check (file ∷ files))
-check_by files limit seed = None
+-- an action on files alone: one at least, and neither a limit nor a seed
+abbrev pub on_files : (List (List ℕ) → Request) → List (List ℕ) → Option (List ℕ) → Option (List ℕ) → Option Request
+on_files action (file ∷ files) None None = Some (action (file ∷ files))
+on_files action files limit seed = None
 
 -- the request of an action with these files and these options; each action takes a word at least behind it
 abbrev pub request_by : Option (List ℕ) → Option (List (List ℕ)) → Option (List ℕ) → Option (List ℕ) → Option Request
 request_by (Some action) (Some files) limit seed =
-    (if bytes_eq action (codes "check") then check_by files limit seed
-    else None)
+    (if bytes_eq action (codes "list") then on_files request.List files limit seed
+    else (if bytes_eq action (codes "check") then on_files request.Check files limit seed
+    else None))
 request_by action files limit seed = None
 
 -- only where the command has no fault
 abbrev pub unless_fault : Kinds → Option Request → Option Request
-unless_fault [] request = request
-unless_fault (kind ∷ kinds) request = None
+unless_fault [] asked = asked
+unless_fault (kind ∷ kinds) asked = None
 
 -- what the words behind the program's name spell
 unfoldable pub spelled : List (List ℕ) → Option Request

@@ -36,6 +36,8 @@ impl FileNames {
 /// What is to be done.
 #[derive(Drop)]
 pub enum Request {
+    /// List what is to be proved of the text of these files, one at least.
+    List { files: FileNames },
     /// Judge the text of these files, one at least.
     Check { files: FileNames },
 }

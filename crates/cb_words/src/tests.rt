@@ -2,17 +2,18 @@ use crate::{Request, WordsFault, limit_of, seed_of, words_of};
 use std::alloc::{AllocError, Global};
 use std::test::Fail;
 
-// The names of the files of `check`, with a blank between two; or why there is no request.
+// The action and the names of its files, with a blank between two; or why there is no request.
 fn files_of(alloc: Global, line: &str) -> Result<Result<String, WordsFault>, AllocError> {
     let mut words = Vec::new(alloc);
     for word in line.split_ascii_whitespace() {
         words.push(String::from_str(alloc, word)?)?;
     }
-    let Request::Check { files } = match words_of(alloc, &words) {
-        Ok(request) => request,
+    let (action, files) = match words_of(alloc, &words) {
+        Ok(Request::List { files }) => ("list ", files),
+        Ok(Request::Check { files }) => ("check ", files),
         Err(fault) => return Ok(Err(fault)),
     };
-    let mut names = String::new(alloc);
+    let mut names = String::from_str(alloc, action)?;
     for name in files.as_slice() {
         names.push_str(name.as_str())?;
         names.push(' ')?;
@@ -24,14 +25,15 @@ fn files_of(alloc: Global, line: &str) -> Result<Result<String, WordsFault>, All
 fn reads_words_and_numbers(rt: HostRuntime) -> Result<(), Fail> {
     let alloc = rt.alloc();
     for (line, wanted) in [
-        ("check a.txt", Some("a.txt ")),
-        ("check a.txt b.txt a.txt", Some("a.txt b.txt a.txt ")),
-        ("check -- -x --limit", Some("-x --limit ")),
-        ("-- check a.txt", Some("a.txt ")),
-        ("check -", Some("- ")),
+        ("check a.txt", Some("check a.txt ")),
+        ("check a.txt b.txt a.txt", Some("check a.txt b.txt a.txt ")),
+        ("check -- -x --limit", Some("check -x --limit ")),
+        ("-- check a.txt", Some("check a.txt ")),
+        ("check -", Some("check - ")),
         ("", None),
         ("check", None),
-        ("list a.txt", None),
+        ("list a.txt", Some("list a.txt ")),
+        ("list", None),
         ("checks a.txt", None),
         ("check -x", None),
         ("check a.txt --help", None),

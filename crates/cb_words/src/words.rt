@@ -1,6 +1,6 @@
 //! The reading of the words.
-ghost use Rattle.std.specs.Prelude.{◌≡◌, map, string_bytes, IfOk, IsErrOf, Some, None, option_map};
-ghost use Rattle.cb_words.specs.Spelled.{spelled, request_by, check_by};
+ghost use Rattle.std.specs.Prelude.{◌≡◌, ℕ, List, map, string_bytes, IfOk, IsErrOf, Some, None, option_map};
+ghost use Rattle.cb_words.specs.Spelled.{spelled, request_by, on_files};
 
 use crate::fault::WordsFault;
 use crate::line::line_matches;
@@ -10,8 +10,8 @@ use std::alloc::{AllocError, Global};
 /// Reads the words that follow the program's name.
 ///
 /// They form one command: an action, any number of files, and the options `--limit` and `--seed` with one value each,
-/// which may stand between the files, also as `--limit=5`. After `--` each word is a file or the action. `check` takes
-/// one file at least, and no option.
+/// which may stand between the files, also as `--limit=5`. After `--` each word is a file or the action. `list` and
+/// `check` take one file at least, and no option.
 ///
 /// # Errors
 ///
@@ -47,31 +47,35 @@ fn request_of(
     let (Some(action), Some(files)) = (action, files) else {
         return Err(WordsFault::Words);
     };
+    if action == "list" {
+        let files = files_alone(alloc, files, limit, seed)?;
+        return Ok(Request::List { files });
+    }
     if action == "check" {
-        return check_of(alloc, files, limit, seed);
+        let files = files_alone(alloc, files, limit, seed)?;
+        return Ok(Request::Check { files });
     }
     Err(WordsFault::Words)
 }
 
-// `check` takes no option, and one file at least.
-fn check_of(
+// The files of an action that takes one at least, and no option.
+fn files_alone(
     alloc: Global,
     files: &[&str],
     limit: Option<&str>,
     seed: Option<&str>,
-) -> Result<Request, WordsFault>
-    ensures request { IfOk result (λ r.
-        check_by (map (λ v. v.now) files.now)
-        (option_map (λ s. s.now) limit.entry) (option_map (λ s. s.now) seed.entry) ≡ Some r) }
-    ensures words { IsErrOf result WordsFault.Words →
-        check_by (map (λ v. v.now) files.now)
+) -> Result<FileNames, WordsFault>
+    ensures request { IfOk result (λ f. (action : List (List ℕ) → Request) →
+        on_files action (map (λ v. v.now) files.now)
+        (option_map (λ s. s.now) limit.entry) (option_map (λ s. s.now) seed.entry) ≡ Some (action f)) }
+    ensures words { IsErrOf result WordsFault.Words → (action : List (List ℕ) → Request) →
+        on_files action (map (λ v. v.now) files.now)
         (option_map (λ s. s.now) limit.entry) (option_map (λ s. s.now) seed.entry) ≡ None }
 {
     if files.is_empty() || limit.is_some() || seed.is_some() {
         return Err(WordsFault::Words);
     }
-    let files = names_of(alloc, files)?;
-    Ok(Request::Check { files })
+    Ok(names_of(alloc, files)?)
 }
 
 // The names as texts of their own.

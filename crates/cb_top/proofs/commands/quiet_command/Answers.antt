@@ -1,34 +1,12 @@
-use Rattle.std.proofs.Common.{refl, ◌≡◌, ◌≤◌, inl, inr, ◌⊎◌, arith}
-use Rattle.cb_edge.proofs.Told.{appends_nothing}
-use Rattle.cb_top.proofs.Answered.{text_answers, fault_answers, unread_answers, along}
-use Rattle.cb_top.specs.Outcome.{verdict_status, refusal_status}
-use Rattle.cb_top.specs.declared.outcome.Verdict.{Verdict}
-use Rattle.cb_top.specs.declared.outcome.Verdict.TheVariants.{AllProved, SomeOpen}
-use Rattle.cb_top.specs.declared.outcome.Refusal.{Refusal}
-use Rattle.cb_top.specs.declared.outcome.Refusal.TheVariants.{IllFormed, Limit}
+use Rattle.std.proofs.Common.{◌≡◌, ◌≢◌, ℕ, sym, subst, ◌∙◌, arith}
+use Rattle.cb_top.specs.Joined.{joined}
+use Rattle.cb_top.specs.Outcome.{IsOutcome}
 use Rattle.cb_top.proofs.commands.quiet_command.Goals as goal
 
-verdicts : (v : Verdict) → verdict_status v ≤ 1
-verdicts AllProved = omega arith
-verdicts SomeOpen = omega arith
+other : (status n : ℕ) → status ≡ 0 → 0 ≢ n → status ≢ n
+other status n z apart e = apart (sym z ∙ e)
 
-refusals : (r : Refusal) → (refusal_status r ≡ 2) ⊎ (refusal_status r ≡ 7)
-refusals IllFormed = inl refl
-refusals Limit = inr refl
-
-pub returns-in-Ok-Text-clause-answers : goal.returns-in-Ok-Text-clause-answers
-returns-in-Ok-Text-clause-answers g c =
-    along _ _ _ _ _ _ _ c.file_names.ensures
-    (text_answers _ _ _ _ _ _ (verdict_status c.in-Ok-Text.verdict) c.in-Ok-Text.text.items (verdicts c.in-Ok-Text.verdict)
-    (rw c.in-Ok-Text.field-0-is at c.in-Ok-Text.ensures.outcome) (rw (c.deref.ensures.value, c.status_of_verdict.ensures) at c.print_text.ensures))
-
-pub returns-in-Ok-Fault-clause-answers : goal.returns-in-Ok-Fault-clause-answers
-returns-in-Ok-Fault-clause-answers g c =
-    along _ _ _ _ _ _ _ c.file_names.ensures
-    (fault_answers _ _ _ _ _ _ (refusal_status c.in-Ok-Fault.refusal) c.in-Ok-Fault.line.items (refusals c.in-Ok-Fault.refusal)
-    (appends_nothing _) refl (rw c.in-Ok-Fault.field-0-is at c.in-Ok-Fault.ensures.outcome) (rw (c.deref-in-Ok-Fault.ensures.value, c.status_of_refusal.ensures) at c.print_line.ensures))
-
-pub returns-in-Err-Unread-clause-answers : goal.returns-in-Err-Unread-clause-answers
-returns-in-Err-Unread-clause-answers g c =
-    along _ _ _ _ _ _ _ c.file_names.ensures
-    (unread_answers _ _ _ _ _ _ c.in-Err-Unread.line.items (appends_nothing _) refl (rw c.in-Err-Unread.field-0-is at c.in-Err-Unread.ensures.unread) (rw c.deref-in-Err-Unread.ensures.value at c.print_line-in-Err-Unread.ensures))
+pub returns-clause-safe : goal.returns-clause-safe
+returns-clause-safe g c = λ names is z contents held.
+    let o = c.respond.ensures.answers.outcome (other _ 4 z (λ h. omega (arith, h))) (other _ 5 z (λ h. omega (arith, h))) (other _ 6 z (λ h. omega (arith, h))) contents held in
+    c.accepted_is_safe.ensures names (joined contents) o.0 (subst (λ r. IsOutcome r (joined contents) o.0) is o.1) (sym o.2 ∙ z)

@@ -1,0 +1,9 @@
+pub mod TextOwning
+pub mod NotEmpty
+pub mod Appending
+pub mod MachinesAgain
+pub mod TextsAgain
+pub mod Chains
+pub mod ProofsQuiet
+pub mod StackChains
+pub mod TextIsOne

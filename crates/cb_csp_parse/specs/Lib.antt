@@ -1,0 +1,3 @@
+pub mod TextKinds
+pub mod Begun
+pub mod Laws

@@ -1,0 +1,9 @@
+use Rattle.std.proofs.lemmas.Result.{IfOk-weaker}
+use Rattle.cb_top.specs.Outcome.{refused_proofs, spelled}
+use Rattle.cb_top.proofs.judge.judge_with_proofs.Goals as goal
+
+pub returns-in-Ok : goal.returns-in-Ok
+returns-in-Ok c = IfOk-weaker c.judge_text.result _ _ (λ o j. spelled c.args.at c.args.raw.now c.requires.spelled _ (_, rw (← c.as_slice.ensures) at c.in-Ok.ensures.spelled) j) c.judge_text.ensures
+
+pub returns-in-Err : goal.returns-in-Err
+returns-in-Err c = IfOk-weaker c.misread.result _ _ (λ o e. refused_proofs c.args.at c.args.raw.now c.requires.spelled c.in-Err.fault c.in-Err.ensures.fault e) c.misread.ensures

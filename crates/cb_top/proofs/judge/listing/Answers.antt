@@ -1,0 +1,13 @@
+use Rattle.std.proofs.Common.{refl}
+use Rattle.cb_verdicts.specs.Proofs.{keys_of}
+use Rattle.cb_top.specs.Outcome.{Answer, wrong_proof, right_proofs}
+use Rattle.cb_top.proofs.Wrongs.{wrong_told, both}
+use Rattle.cb_top.proofs.judge.listing.Goals as goal
+
+pub returns-in-Ok : goal.returns-in-Ok
+returns-in-Ok c = λ files. right_proofs c.in-Ok.ensures.fine (rw c.in_ok-listing_text-in-Ok.ensures refl)
+
+pub returns : goal.returns
+returns c =
+    both c.proof_fault.result _ _ _ c.proof_fault.ensures.answer c.proof_fault.ensures.wrong
+    (λ o a w files. wrong_proof c.in-Err.wrong (wrong_told (keys_of c.args.list.now) c.args.proofs.now c.in-Err.wrong w c.in-Err.ensures.fault) a)

@@ -1,0 +1,4 @@
+pub mod Declares
+pub mod MachineFaults
+pub mod NormalMachines
+pub mod Whole

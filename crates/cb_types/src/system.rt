@@ -1,0 +1,421 @@
+//! The system of a text, in normal form.
+
+ghost use Rattle.std.specs.Prelude.{◌≡◌, ◌++◌, IfOk, OnOk, map};
+ghost use Rattle.cb_types.specs.NormalMachines.{written_name, declared_name, maybe_formula, kind_or_set, given_kind, result_name, operation_with, results_in, operation_inside, operation_in, invariant_in, start_in, machine_with, variables_in, machine_in, machines_in, set_in, constant_in, sets_of, constants_of, known_in, names_in};
+ghost use Rattle.cb_types.specs.Whole.{IsSystemOf};
+
+use crate::declare::{domains, next_number, number_or_zero, numbers};
+use crate::machine::{declare_locals, view_inside};
+use crate::tables::{variable_domains, variables, view};
+use cb_forms::table::Table;
+use cb_judge::domain::Choice;
+use cb_judge::names::{Entry, View};
+use cb_judge::subst::{Given, judge_subst};
+use cb_lex::Memory;
+use cb_lex::raw::name::RawName;
+use cb_lex::raw::term::RawFormula;
+use cb_lex::raw::text::{RawMachine, RawOperation, RawSet, RawState};
+use cb_normal::formula::{copy_name, domain_or_zero, normal_formula};
+use cb_normal::subst::{normal_subst, skip};
+use cb_spec::subst::Subst;
+use cb_spec::system::{Declared, Machine, Operation, System};
+use cb_term::kind::{Base, Kind};
+use cb_term::name::{Name, Names};
+use cb_term::table::{SetNames, SetTable};
+use cb_term::tree::Formula;
+use sqlite_items::Items;
+use std::alloc::Global;
+
+#[tactic(auto, unfolding(crate::specs::NormalMachines::declared_name))]
+fn declared(alloc: Global, domains: &Table<Choice>, name: &RawName) -> Result<Declared, Memory>
+    ensures { IfOk result (λ d. d ≡ declared_name domains.now name.now) }
+{
+    let domain = domain_or_zero(&domains.find(name.text.as_slice()));
+    let name = copy_name(alloc, name)?;
+    Ok(Declared { name, domain })
+}
+
+fn all_declared(
+    alloc: Global,
+    domains: &Table<Choice>,
+    list: &[RawName],
+) -> Result<Items<Declared>, Memory>
+    ensures { IfOk result (λ ds. ds ≡ map (declared_name domains.now) list.now) }
+{
+    let mut all = Items::new(alloc);
+    for name in list {
+        all.push(declared(alloc, domains, name)?)?;
+    }
+    Ok(all)
+}
+
+fn normal_maybe(
+    alloc: Global,
+    view: &View,
+    names: &mut Table<Entry>,
+    formula: &Option<RawFormula>,
+) -> Result<Formula, Memory>
+    ensures formula { IfOk result (λ f. f ≡ maybe_formula view.now names.old formula.now) }
+    ensures kept { OnOk result (names.new ≡ names.old) }
+{
+    match formula {
+        None => Ok(Formula::btrue()),
+        Some(f) => Ok(normal_formula(alloc, view, names, f)?),
+    }
+}
+
+fn or_set(kind: Kind) -> Kind
+    ensures { result ≡ kind_or_set kind }
+{
+    match kind {
+        Kind::EmptySet => Kind::SetOf(Base::Integer),
+        _ => kind,
+    }
+}
+
+fn kind_given(given: &Option<Given>) -> Kind
+    ensures { result ≡ given_kind given.now }
+{
+    match given {
+        None => Kind::Integer,
+        Some(g) => or_set(g.kind),
+    }
+}
+
+#[tactic(auto, unfolding(crate::specs::NormalMachines::result_name))]
+fn result_of(alloc: Global, results: &Table<Given>, name: &RawName) -> Result<(Name, Kind), Memory>
+    ensures { IfOk result (λ r. r ≡ result_name results.now name.now) }
+{
+    let kind = kind_given(&results.find(name.text.as_slice()));
+    Ok((copy_name(alloc, name)?, kind))
+}
+
+fn all_results(
+    alloc: Global,
+    results: &Table<Given>,
+    list: &[RawName],
+) -> Result<Items<(Name, Kind)>, Memory>
+    ensures { IfOk result (λ rs. rs ≡ map (result_name results.now) list.now) }
+{
+    let mut all = Items::new(alloc);
+    for name in list {
+        all.push(result_of(alloc, results, name)?)?;
+    }
+    Ok(all)
+}
+
+// The results of an operation, where the names inside are known.
+fn results_inside(
+    alloc: Global,
+    view: &View,
+    names: &mut Table<Entry>,
+    operation: &RawOperation,
+) -> Result<Items<(Name, Kind)>, Memory>
+    ensures results { IfOk result (λ rs. rs ≡ results_in view.now names.old operation.now) }
+    ensures kept { OnOk result (names.new ≡ names.old) }
+{
+    let mut given = Table::new(alloc);
+    judge_subst(alloc, view, names, &mut given, &operation.body)?;
+    Ok(all_results(alloc, &given, operation.results.as_slice())?)
+}
+
+// The operation of these parts.
+#[tactic(auto, unfolding(crate::specs::NormalMachines::operation_with))]
+fn with_name(
+    alloc: Global,
+    domains: &Table<Choice>,
+    operation: &RawOperation,
+    results: Items<(Name, Kind)>,
+    pre: Formula,
+    body: Subst,
+) -> Result<Operation, Memory>
+    ensures { IfOk result (λ o. o ≡ operation_with domains.now operation.now results pre body) }
+{
+    let name = copy_name(alloc, &operation.name)?;
+    let params = all_declared(alloc, domains, operation.parameters.as_slice())?;
+    Ok(Operation {
+        name,
+        params,
+        results,
+        pre,
+        body,
+    })
+}
+
+// The normal form of an operation, where the names inside are known.
+#[tactic(auto, unfolding(crate::specs::NormalMachines::operation_inside))]
+fn normal_inside(
+    alloc: Global,
+    view: &View,
+    domains: &Table<Choice>,
+    names: &mut Table<Entry>,
+    operation: &RawOperation,
+) -> Result<Operation, Memory>
+    ensures operation { IfOk result (λ o. o ≡ operation_inside view.now domains.now names.old operation.now) }
+    ensures kept { OnOk result (names.new ≡ names.old) }
+{
+    let results = results_inside(alloc, view, names, operation)?;
+    let pre = normal_maybe(alloc, view, names, &operation.precondition)?;
+    let body = normal_subst(alloc, view, names, &operation.body)?;
+    Ok(with_name(alloc, domains, operation, results, pre, body)?)
+}
+
+fn normal_operation(
+    alloc: Global,
+    view: &View,
+    names: &mut Table<Entry>,
+    operation: &RawOperation,
+) -> Result<Operation, Memory>
+    ensures operation { IfOk result (λ o. o ≡ operation_in view.now names.old operation.now) }
+    ensures kept { OnOk result (names.new ≡ names.old) }
+{
+    let outside = names.len();
+    let domains = domains(alloc, view, names, operation.precondition.as_ref())?;
+    declare_locals(alloc, names, &domains, operation)?;
+    let normal = normal_inside(alloc, view, &domains, names, operation)?;
+    names.leave(outside);
+    Ok(normal)
+}
+
+fn normal_operations(
+    alloc: Global,
+    view: &View,
+    names: &mut Table<Entry>,
+    operations: &[RawOperation],
+) -> Result<Items<Operation>, Memory>
+    ensures operations { IfOk result (λ os. os ≡ map (operation_in view.now names.old) operations.now) }
+    ensures kept { OnOk result (names.new ≡ names.old) }
+{
+    let mut all = Items::new(alloc);
+    for operation in operations {
+        all.push(normal_operation(alloc, view, names, operation)?)?;
+    }
+    Ok(all)
+}
+
+fn normal_invariant(
+    alloc: Global,
+    view: &View,
+    names: &mut Table<Entry>,
+    state: &Option<RawState>,
+) -> Result<Formula, Memory>
+    ensures invariant { IfOk result (λ f. f ≡ invariant_in view.now names.old state.now) }
+    ensures kept { OnOk result (names.new ≡ names.old) }
+{
+    match state {
+        None => Ok(Formula::btrue()),
+        Some(s) => Ok(normal_formula(alloc, view, names, &s.invariant)?),
+    }
+}
+
+fn normal_start(
+    alloc: Global,
+    view: &View,
+    names: &mut Table<Entry>,
+    state: &Option<RawState>,
+) -> Result<Subst, Memory>
+    ensures start { IfOk result (λ s. s ≡ start_in view.now names.old state.now) }
+    ensures kept { OnOk result (names.new ≡ names.old) }
+{
+    match state {
+        None => Ok(skip()),
+        Some(s) => Ok(normal_subst(alloc, view, names, &s.initialisation)?),
+    }
+}
+
+fn machine_variables(
+    alloc: Global,
+    known: &Table<Entry>,
+    owner: u32,
+    machine: &RawMachine,
+) -> Result<Items<Declared>, Memory>
+    ensures { IfOk result (λ ds. ds ≡ variables_in known.now owner machine.now) }
+{
+    let domains = variable_domains(alloc, known, owner, machine)?;
+    Ok(all_declared(alloc, &domains, variables(&machine.state))?)
+}
+
+// The machine of these parts.
+#[tactic(auto, unfolding(crate::specs::NormalMachines::machine_with))]
+fn machine_of_parts(
+    alloc: Global,
+    variables: Items<Declared>,
+    machine: &RawMachine,
+    invariant: Formula,
+    init: Subst,
+    operations: Items<Operation>,
+) -> Result<Machine, Memory>
+    ensures { IfOk result (λ m. m ≡ machine_with variables machine.now invariant init operations) }
+{
+    let name = copy_name(alloc, &machine.name)?;
+    Ok(Machine {
+        name,
+        variables,
+        invariant,
+        init,
+        operations,
+    })
+}
+
+// The machine with these variables, invariant and initialisation, and its operations.
+fn machine_with_operations(
+    alloc: Global,
+    inner: &View,
+    names: &mut Table<Entry>,
+    variables: Items<Declared>,
+    machine: &RawMachine,
+    invariant: Formula,
+    init: Subst,
+) -> Result<Machine, Memory>
+    ensures machine { IfOk result (λ m. m ≡ machine_with variables machine.now invariant init (map (operation_in inner.now names.old) machine.now.operations)) }
+    ensures kept { OnOk result (names.new ≡ names.old) }
+{
+    let operations = normal_operations(alloc, inner, names, machine.operations.as_slice())?;
+    machine_of_parts(alloc, variables, machine, invariant, init, operations)
+}
+
+// The machine with these variables. Its operations and invariant see `inner`, and its initialisation sees `outer`.
+fn machine_with_variables(
+    alloc: Global,
+    inner: &View,
+    outer: &View,
+    names: &mut Table<Entry>,
+    variables: Items<Declared>,
+    machine: &RawMachine,
+) -> Result<Machine, Memory>
+    ensures machine { IfOk result (λ m. m ≡ machine_with variables machine.now (invariant_in inner.now names.old machine.now.state) (start_in outer.now names.old machine.now.state) (map (operation_in inner.now names.old) machine.now.operations)) }
+    ensures kept { OnOk result (names.new ≡ names.old) }
+{
+    let invariant = normal_invariant(alloc, inner, names, &machine.state)?;
+    let init = normal_start(alloc, outer, names, &machine.state)?;
+    machine_with_operations(alloc, inner, names, variables, machine, invariant, init)
+}
+
+fn normal_machine(
+    alloc: Global,
+    known: &Table<Entry>,
+    names: &mut Table<Entry>,
+    owner: u32,
+    machine: &RawMachine,
+) -> Result<Machine, Memory>
+    ensures machine { IfOk result (λ m. m ≡ machine_in known.now names.old owner machine.now) }
+    ensures kept { OnOk result (names.new ≡ names.old) }
+{
+    let variables = machine_variables(alloc, known, owner, machine)?;
+    let inner = view_inside(alloc, known, owner, machine)?;
+    let outer = view(alloc, known, owner, machine)?;
+    machine_with_variables(alloc, &inner, &outer, names, variables, machine)
+}
+
+fn normal_machines(
+    alloc: Global,
+    known: &Table<Entry>,
+    names: &mut Table<Entry>,
+    machines: &[RawMachine],
+) -> Result<Items<Machine>, Memory>
+    ensures machines { IfOk result (λ ms. ms ≡ machines_in known.now names.old 0 machines.now) }
+    ensures kept { OnOk result (names.new ≡ names.old) }
+{
+    let mut all = Items::new(alloc);
+    let mut owner = 0;
+    for machine in machines {
+        all.push(normal_machine(alloc, known, names, owner, machine)?)?;
+        owner = next_number(owner);
+    }
+    Ok(all)
+}
+
+fn all_names(alloc: Global, list: &[RawName]) -> Result<Names, Memory>
+    ensures { IfOk result (λ ns. ns ≡ map written_name list.now) }
+{
+    let mut all = Items::new(alloc);
+    for name in list {
+        all.push(copy_name(alloc, name)?)?;
+    }
+    Ok(all)
+}
+
+#[tactic(auto, unfolding(crate::specs::NormalMachines::set_in))]
+fn set_names(alloc: Global, set: &RawSet) -> Result<SetNames, Memory>
+    ensures { IfOk result (λ s. s ≡ set_in set.now) }
+{
+    let name = copy_name(alloc, &set.name)?;
+    let elements = all_names(alloc, set.elements.as_slice())?;
+    Ok(SetNames { name, elements })
+}
+
+fn add_sets(alloc: Global, all: &mut Vec<SetNames>, sets: &[RawSet]) -> Result<(), Memory>
+    ensures { OnOk result (all.new.items ≡ all.old.items ++ map set_in sets.now) }
+{
+    for set in sets {
+        all.push(set_names(alloc, set)?)?;
+    }
+    Ok(())
+}
+
+fn all_sets(alloc: Global, machines: &[RawMachine]) -> Result<Vec<SetNames>, Memory>
+    ensures { IfOk result (λ s. s.items ≡ sets_of machines.now) }
+{
+    let mut all = Vec::new(alloc);
+    for machine in machines {
+        add_sets(alloc, &mut all, machine.sets.as_slice())?;
+    }
+    Ok(all)
+}
+
+#[tactic(auto, unfolding(crate::specs::NormalMachines::constant_in))]
+fn constant(alloc: Global, numbers: &Table<i64>, name: &RawName) -> Result<(Name, i64), Memory>
+    ensures { IfOk result (λ c. c ≡ constant_in numbers.now name.now) }
+{
+    let number = number_or_zero(numbers.find(name.text.as_slice()));
+    Ok((copy_name(alloc, name)?, number))
+}
+
+fn add_constants(
+    alloc: Global,
+    all: &mut Items<(Name, i64)>,
+    numbers: &Table<i64>,
+    list: &[RawName],
+) -> Result<(), Memory>
+    ensures { OnOk result (all.new ≡ all.old ++ map (constant_in numbers.now) list.now) }
+{
+    for name in list {
+        all.push(constant(alloc, numbers, name)?)?;
+    }
+    Ok(())
+}
+
+fn all_constants(alloc: Global, machines: &[RawMachine]) -> Result<Items<(Name, i64)>, Memory>
+    ensures { IfOk result (λ cs. cs ≡ constants_of machines.now) }
+{
+    let mut all = Items::new(alloc);
+    for machine in machines {
+        let numbers = numbers(alloc, machine.properties.as_slice())?;
+        add_constants(alloc, &mut all, &numbers, machine.constants.as_slice())?;
+    }
+    Ok(all)
+}
+
+/// The system of the machines, whose names are `known`, and `names`.
+pub fn system(
+    alloc: Global,
+    known: &Table<Entry>,
+    names: &mut Table<Entry>,
+    machines: &[RawMachine],
+) -> Result<System, Memory>
+    requires known { known.now ≡ known_in machines.now }
+    requires names { names.old ≡ names_in machines.now }
+    ensures { IfOk result (λ y. IsSystemOf machines.now y) }
+{
+    let sets = all_sets(alloc, machines)?;
+    let constants = all_constants(alloc, machines)?;
+    let normal = normal_machines(alloc, known, names, machines)?;
+    Ok(System {
+        sets: SetTable { sets },
+        constants,
+        machines: normal,
+        channels: Items::new(alloc),
+        controllers: Items::new(alloc),
+        order: Items::new(alloc),
+    })
+}

@@ -1,0 +1,7 @@
+pub mod Depths
+pub mod Laws
+pub mod Reflects
+pub mod Sides
+pub mod WholeLaws
+pub mod WrittenText
+pub mod Written

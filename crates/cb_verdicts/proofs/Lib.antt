@@ -1,0 +1,3 @@
+mod Certs
+mod Listing
+mod Tables

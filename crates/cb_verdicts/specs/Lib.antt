@@ -1,0 +1,5 @@
+pub mod Certificates
+pub mod Given
+pub mod Proofs
+pub mod Verdicts
+pub mod Owed

@@ -1,0 +1,10 @@
+//! Verdicts on obligations: which proof is of which obligation, and whether it derives it.
+#![tactic(auto)]
+
+pub mod certificates;
+pub mod judge;
+pub mod names;
+pub mod obligations;
+pub mod places;
+#[cfg(test)]
+mod tests;

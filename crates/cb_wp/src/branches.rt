@@ -1,0 +1,352 @@
+//! The branches of a substitution.
+
+ghost use Rattle.std.specs.Prelude.{◌≡◌, ◌++◌, ◌∷◌, [], min, IfOk, IfErr, None, map};
+ghost use Rattle.cb_spec.specs.Domains as domains;
+ghost use Rattle.cb_obligations.specs.Counts as counts;
+ghost use Rattle.cb_obligations.specs.Branches as spec;
+ghost use Rattle.cb_spec.specs.SubstTree as subst;
+ghost use Rattle.cb_term.specs.Tree as tree;
+ghost use Rattle.cb_wp.specs.Parts.{item_of, branch_of, begun_of, after, guarded, bound};
+ghost use Rattle.cb_wp.specs.Limits.{Tells, branch_limit};
+
+use crate::changes::{Opened, next, put};
+use crate::limits::{MakeFault, Which};
+use cb_spec::subst::{Subst, SubstNode};
+use cb_term::Memory;
+use cb_term::change::{change_formula, change_term};
+use cb_term::kind::{Base, Domain, Kind};
+use cb_term::name::Name;
+use cb_term::tree::{Formula, Term};
+use sqlite_items::Items;
+use std::alloc::Global;
+
+/// What stands in front of a branch's assignment.
+#[derive(Drop)]
+pub enum Item {
+    /// A name of this kind is bound.
+    Bind(Name, Kind),
+    /// The formula holds.
+    Guard(Formula),
+}
+
+/// One way through a substitution: names bound and guards met in order, and what is then written, all at once.
+#[derive(Drop)]
+pub struct Branch {
+    pub items: Items<Item>,
+    pub writes: Items<(Name, Term)>,
+}
+
+// A branch of what comes before, with the number of names that it binds.
+#[derive(Drop)]
+pub struct Begun {
+    branch: Branch,
+    number: u32,
+}
+
+impl Item {
+    fn copy(&self, alloc: Global) -> Result<Item, Memory>
+        ensures { IfOk result (λ i. i ≡ self.now) }
+    {
+        match self {
+            Item::Bind(name, kind) => Ok(Item::Bind(name.copy(alloc)?, *kind)),
+            Item::Guard(formula) => Ok(Item::Guard(formula.copy(alloc)?)),
+        }
+    }
+}
+
+impl Begun {
+    fn writing(self, target: Name, value: Term) -> Result<Begun, Memory>
+        ensures { IfOk result (λ b. begun_of b ≡ (self.number, spec.joined (branch_of self.branch) (record { items = []; writes = (target, value) ∷ [] }))) }
+    {
+        let Begun { mut branch, number } = self;
+        branch.writes.push((target, value))?;
+        Ok(Begun { branch, number })
+    }
+
+    fn guarded(self, guard: Formula) -> Result<Begun, Memory>
+        ensures { IfOk result (λ b. begun_of b ≡ guarded (begun_of self) guard) }
+    {
+        let Begun { mut branch, number } = self;
+        branch.items.push(Item::Guard(guard))?;
+        Ok(Begun { branch, number })
+    }
+
+    // The name is numbered by what is bound with it.
+    fn binding(self, name: Name, kind: Kind, guard: Formula) -> Result<Begun, Memory>
+        ensures { IfOk result (λ b. begun_of b ≡ (name.number, spec.joined (branch_of self.branch) (record { items = spec.Bind name kind ∷ spec.Guard guard ∷ []; writes = [] }))) }
+    {
+        let Begun { mut branch, .. } = self;
+        let number = name.number;
+        branch.items.push(Item::Bind(name, kind))?;
+        branch.items.push(Item::Guard(guard))?;
+        Ok(Begun { branch, number })
+    }
+
+    fn copy(&self, alloc: Global) -> Result<Begun, Memory>
+        ensures { IfOk result (λ b. b ≡ self.now) }
+    {
+        let mut items = Items::new(alloc);
+        for item in self.branch.items.as_slice() {
+            items.push(item.copy(alloc)?)?;
+        }
+        let mut writes = Items::new(alloc);
+        for write in self.branch.writes.as_slice() {
+            writes.push((write.0.copy(alloc)?, write.1.copy(alloc)?))?;
+        }
+        Ok(Begun {
+            branch: Branch { items, writes },
+            number: self.number,
+        })
+    }
+}
+
+/// The kind of the domain's values.
+pub fn kind_of(domain: Domain) -> Kind
+    ensures { result ≡ domains.kind_of domain }
+{
+    match domain {
+        Domain::Range { .. } => Kind::Integer,
+        Domain::Truth => Kind::Truth,
+        Domain::Elems(set) => Kind::Elem(set),
+        Domain::Subsets { .. } => Kind::SetOf(Base::Integer),
+        Domain::ElemSubsets(set) => Kind::SetOf(Base::Elem(set)),
+    }
+}
+
+#[tactic(auto, using(crate::proofs::BranchLemmas::product_least))]
+/// How many branches the substitution has. 257 where there are more than 256.
+pub fn branch_count(subst: &Subst) -> u64
+    ensures { result ≡ min (counts.branch_count subst.now) 257 }
+{
+    match &subst.node {
+        SubstNode::Skip | SubstNode::Assign { .. } => 1,
+        SubstNode::Together(a, b) => least(branch_count(a).saturating_mul(branch_count(b))),
+        SubstNode::Choice(sides) => {
+            let mut sum = 0u64;
+            for side in sides.as_slice() {
+                sum = least(branch_count(side).saturating_add(sum));
+            }
+            sum
+        }
+        SubstNode::If { then, other, .. } => least(branch_count(then).saturating_add(branch_count(
+            other,
+        ))),
+        SubstNode::AnyOf { body, .. } => branch_count(body),
+    }
+}
+
+fn least(count: u64) -> u64
+    ensures { result ≡ min count 257 }
+{
+    if count < 257 { count } else { 257 }
+}
+
+fn numbered(alloc: Global, name: &Name, number: u32) -> Result<Name, Memory>
+    ensures { IfOk result (λ x. x ≡ spec.numbered name.now number) }
+{
+    let text = name.text.copy(alloc)?;
+    Ok(Name { text, number })
+}
+
+fn opened_term(alloc: Global, term: &Term, scope: &[Name]) -> Result<Term, Memory>
+    ensures { IfOk result (λ t. t ≡ spec.opened_term scope.now term.now) }
+{
+    change_term(alloc, term, &Opened { scope }, 0)
+}
+
+fn opened_formula(alloc: Global, formula: &Formula, scope: &[Name]) -> Result<Formula, Memory>
+    ensures { IfOk result (λ f. f ≡ spec.opened scope.now formula.now) }
+{
+    change_formula(alloc, formula, &Opened { scope }, 0)
+}
+
+fn one(alloc: Global, begun: Begun) -> Result<Vec<Begun>, Memory>
+    ensures { IfOk result (λ bs. bs.items ≡ begun ∷ []) }
+{
+    let mut all = Vec::new(alloc);
+    put(&mut all, begun)?;
+    Ok(all)
+}
+
+fn joined(firsts: Vec<Begun>, seconds: Vec<Begun>) -> Result<Vec<Begun>, Memory>
+    ensures { IfOk result (λ bs. map begun_of bs.items ≡ map begun_of firsts.items ++ map begun_of seconds.items) }
+{
+    let mut all = firsts;
+    let mut more = seconds;
+    all.append(&mut more)?;
+    Ok(all)
+}
+
+/// The names with this one in front.
+pub fn with_first(alloc: Global, name: Name, names: &[Name]) -> Result<Items<Name>, Memory>
+    ensures { IfOk result (λ xs. xs ≡ name ∷ names.now) }
+{
+    let mut all = Items::new(alloc);
+    all.push(name)?;
+    for other in names {
+        all.push(other.copy(alloc)?)?;
+    }
+    Ok(all)
+}
+
+fn skip(alloc: Global, begun: Begun) -> Result<Vec<Begun>, Memory>
+    ensures { IfOk result (λ bs. map begun_of bs.items ≡ after (λ k. spec.branches_from k [] subst.Skip) (begun_of begun)) }
+{
+    one(alloc, begun)
+}
+
+fn assign(
+    alloc: Global,
+    target: &Name,
+    value: &Term,
+    begun: Begun,
+    scope: &[Name],
+) -> Result<Vec<Begun>, Memory>
+    ensures { IfOk result (λ bs. map begun_of bs.items ≡ after (λ k. spec.branches_from k scope.now (subst.Assign target.now value.now)) (begun_of begun)) }
+{
+    let target = target.copy(alloc)?;
+    let value = opened_term(alloc, value, scope)?;
+    let written = begun.writing(target, value)?;
+    one(alloc, written)
+}
+
+// With the test as a guard.
+fn behind(alloc: Global, begun: Begun, test: &Formula, scope: &[Name]) -> Result<Begun, Memory>
+    ensures { IfOk result (λ b. begun_of b ≡ guarded (begun_of begun) (spec.opened scope.now test.now)) }
+{
+    let guard = opened_formula(alloc, test, scope)?;
+    begun.guarded(guard)
+}
+
+// With the test's negation as a guard.
+fn behind_not(alloc: Global, begun: Begun, test: &Formula, scope: &[Name]) -> Result<Begun, Memory>
+    ensures { IfOk result (λ b. begun_of b ≡ guarded (begun_of begun) (tree.Not (spec.opened scope.now test.now))) }
+{
+    let guard = opened_formula(alloc, test, scope)?;
+    let negated = Formula::not(alloc, guard)?;
+    begun.guarded(negated)
+}
+
+// The name in front of the scope's.
+fn within(alloc: Global, name: &Name, number: u32, scope: &[Name]) -> Result<Items<Name>, Memory>
+    ensures { IfOk result (λ xs. xs ≡ spec.numbered name.now number ∷ scope.now) }
+{
+    let name = numbered(alloc, name, number)?;
+    with_first(alloc, name, scope)
+}
+
+// With the name bound, and its test as a guard.
+fn bound(
+    alloc: Global,
+    name: &Name,
+    domain: Domain,
+    test: &Formula,
+    begun: Begun,
+    number: u32,
+    inner: &[Name],
+) -> Result<Begun, Memory>
+    ensures { IfOk result (λ b. begun_of b ≡ bound (begun_of begun) number name.now (domains.kind_of domain) (spec.opened inner.now test.now)) }
+{
+    let guard = opened_formula(alloc, test, inner)?;
+    let name = numbered(alloc, name, number)?;
+    begun.binding(name, kind_of(domain), guard)
+}
+
+// The substitution's branches, each after what is begun. The innermost name of the scope is the first.
+fn branches_after(
+    alloc: Global,
+    subst: &Subst,
+    begun: Begun,
+    scope: &[Name],
+) -> Result<Vec<Begun>, Memory>
+    ensures { IfOk result (λ bs. map begun_of bs.items ≡ after (λ k. spec.branches_from k scope.now subst.now) (begun_of begun)) }
+{
+    match &subst.node {
+        SubstNode::Skip => skip(alloc, begun),
+        SubstNode::Assign { target, value } => assign(alloc, target, value, begun, scope),
+        SubstNode::Together(a, b) => {
+            let firsts = branches_after(alloc, a, begun, scope)?;
+            let mut all = Vec::new(alloc);
+            for first in firsts {
+                let mut more = branches_after(alloc, b, first, scope)?;
+                all.append(&mut more)?;
+            }
+            Ok(all)
+        }
+        SubstNode::Choice(sides) => {
+            let mut all = Vec::new(alloc);
+            for side in sides.as_slice() {
+                let copied = begun.copy(alloc)?;
+                let mut more = branches_after(alloc, side, copied, scope)?;
+                all.append(&mut more)?;
+            }
+            Ok(all)
+        }
+        SubstNode::If { test, then, other } => {
+            let copied = begun.copy(alloc)?;
+            let first = behind(alloc, copied, test, scope)?;
+            let firsts = branches_after(alloc, then, first, scope)?;
+            let second = behind_not(alloc, begun, test, scope)?;
+            let seconds = branches_after(alloc, other, second, scope)?;
+            let all = joined(firsts, seconds)?;
+            Ok(all)
+        }
+        SubstNode::AnyOf {
+            name,
+            domain,
+            test,
+            body,
+        } => {
+            let number = next(begun.number)?;
+            let inner = within(alloc, name, number, scope)?;
+            let inside = bound(alloc, name, *domain, test, begun, number, inner.as_slice())?;
+            let all = branches_after(alloc, body, inside, inner.as_slice())?;
+            Ok(all)
+        }
+    }
+}
+
+/// The branches of a substitution whose names are as written, in order. The j-th name that a branch binds has the number j,
+/// and so have its places in the branch. `Limit(Branches)` exactly where there are more than 256.
+pub fn branches(alloc: Global, subst: &Subst) -> Result<Items<Branch>, MakeFault>
+    ensures list { IfOk result (λ bs. map branch_of bs ≡ spec.branches subst.now) }
+    ensures within { IfOk result (λ bs. branch_limit subst.now ≡ None) }
+    ensures fault { IfErr result (λ e. Tells e (branch_limit subst.now)) }
+{
+    if branch_count(subst) > 256 {
+        return Err(MakeFault::Limit(Which::Branches));
+    }
+    Ok(all_branches(alloc, subst)?)
+}
+
+fn begin(alloc: Global) -> Begun
+    ensures { begun_of result ≡ (0, record { items = []; writes = [] }) }
+{
+    Begun {
+        branch: Branch {
+            items: Items::new(alloc),
+            writes: Items::new(alloc),
+        },
+        number: 0,
+    }
+}
+
+/// What `branches` gives, however many they are.
+pub fn all_branches(alloc: Global, subst: &Subst) -> Result<Items<Branch>, Memory>
+    ensures { IfOk result (λ bs. map branch_of bs ≡ spec.branches subst.now) }
+{
+    let begun = begin(alloc);
+    let made = branches_after(alloc, subst, begun, &[])?;
+    let all = without_numbers(alloc, made)?;
+    Ok(all)
+}
+
+fn without_numbers(alloc: Global, begun: Vec<Begun>) -> Result<Items<Branch>, Memory>
+    ensures { IfOk result (λ bs. map branch_of bs ≡ map (λ b. branch_of b.branch) begun.items) }
+{
+    let mut branches = Items::new(alloc);
+    for one in begun {
+        branches.push(one.branch)?;
+    }
+    Ok(branches)
+}
