@@ -139,6 +139,3 @@ pub fn machine(
     let (mut stack, taken) = read_values(alloc, rest(tokens, from), Part::Machine, 0, false)?;
     Ok((pop_machine(&mut stack), from + taken))
 }
-
-#[cfg(test)]
-mod tests;

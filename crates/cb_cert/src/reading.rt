@@ -50,6 +50,3 @@ pub fn proofs(
     let (mut stack, taken) = read_values(alloc, rest(tokens, from))?;
     Ok((pop_proofs(&mut stack), from + taken))
 }
-
-#[cfg(test)]
-mod tests;

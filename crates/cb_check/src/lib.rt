@@ -3,8 +3,4 @@
 
 pub mod laws;
 pub mod premises;
-#[cfg(test)]
-mod rooms;
-#[cfg(test)]
-mod tests;
 pub mod walk;

@@ -3,5 +3,3 @@
 
 pub mod laws;
 pub mod premises;
-#[cfg(test)]
-mod tests;

@@ -4,5 +4,3 @@
 pub mod laws;
 pub mod premises;
 pub mod replace;
-#[cfg(test)]
-mod tests;

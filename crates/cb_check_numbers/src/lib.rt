@@ -4,5 +4,3 @@
 pub mod laws;
 mod linear;
 pub mod premises;
-#[cfg(test)]
-mod tests;

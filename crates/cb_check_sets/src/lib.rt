@@ -4,5 +4,3 @@
 pub mod laws;
 pub mod members;
 pub mod premises;
-#[cfg(test)]
-mod tests;

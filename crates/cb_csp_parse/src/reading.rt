@@ -112,6 +112,3 @@ pub fn controller(
     let (mut stack, taken) = read_values(alloc, rest(tokens, from), Part::Controller)?;
     Ok((pop_controller(&mut stack), from + taken))
 }
-
-#[cfg(test)]
-mod tests;

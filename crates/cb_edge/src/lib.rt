@@ -6,8 +6,6 @@
 mod edge;
 mod memory;
 mod real;
-#[cfg(test)]
-mod tests;
 mod text;
 
 pub use edge::{Failed, Files, Gate, Memory, NoGate, Sink};

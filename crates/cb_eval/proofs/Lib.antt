@@ -7,4 +7,3 @@ pub mod QuantifierLemmas
 pub mod TellLemmas
 pub mod FormLemmas
 pub mod TypedLemmas
-pub mod ExampleLemmas

@@ -4,4 +4,3 @@ pub mod Walks
 pub mod WideView
 pub mod Laws
 pub mod TypedIn
-pub mod Example

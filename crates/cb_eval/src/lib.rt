@@ -6,8 +6,6 @@ mod evaluate;
 pub mod laws;
 mod sets;
 mod signs;
-#[cfg(test)]
-mod tests;
 pub mod typed;
 pub mod walk;
 mod wide;

@@ -8,5 +8,3 @@ pub mod owners;
 pub mod signs;
 pub mod span;
 pub mod table;
-#[cfg(test)]
-mod tests;

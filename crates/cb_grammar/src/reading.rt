@@ -152,6 +152,3 @@ pub fn read_part(
         Reading::Fault(at) => Err(refusal(tokens, at)),
     }
 }
-
-#[cfg(test)]
-mod tests;

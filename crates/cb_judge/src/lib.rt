@@ -5,6 +5,4 @@ pub mod domain;
 pub mod judge;
 pub mod names;
 pub mod subst;
-#[cfg(test)]
-mod tests;
 pub mod writes;

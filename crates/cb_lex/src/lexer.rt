@@ -123,6 +123,3 @@ pub fn tokens(alloc: Global, bytes: &[u8]) -> Result<Vec<Token>, LexFault>
         }
     }
 }
-
-#[cfg(test)]
-mod tests;

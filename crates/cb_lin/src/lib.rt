@@ -6,5 +6,3 @@ pub mod linear;
 pub mod row;
 pub mod small;
 mod sum;
-#[cfg(test)]
-mod tests;

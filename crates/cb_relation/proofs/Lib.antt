@@ -1,3 +1,2 @@
 pub mod ChoiceLemmas
-pub mod ExampleLemmas
 pub mod PerformLemmas

@@ -1,4 +1,3 @@
-pub mod Example
 pub mod Performing
 pub mod Picks
 pub mod Trying

@@ -5,5 +5,3 @@ mod choice;
 mod known;
 pub mod perform;
 pub mod pick;
-#[cfg(test)]
-mod tests;

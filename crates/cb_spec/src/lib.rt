@@ -9,5 +9,3 @@ pub mod state;
 pub mod store;
 pub mod subst;
 pub mod system;
-#[cfg(test)]
-mod tests;

@@ -15,8 +15,6 @@ pub mod laws;
 pub mod name;
 pub mod sign;
 pub mod table;
-#[cfg(test)]
-mod tests;
 pub mod text;
 pub mod tree;
 pub mod value;

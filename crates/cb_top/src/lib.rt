@@ -8,8 +8,6 @@ pub mod laws;
 mod outcome;
 mod print;
 mod sources;
-#[cfg(test)]
-mod tests;
 
 pub use commands::{command, quiet_command};
 

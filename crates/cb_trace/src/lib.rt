@@ -2,6 +2,4 @@
 #![tactic(auto)]
 
 pub mod listing;
-#[cfg(test)]
-mod tests;
 pub mod verdict;

@@ -6,5 +6,3 @@ pub mod judge;
 pub mod names;
 pub mod obligations;
 pub mod places;
-#[cfg(test)]
-mod tests;

@@ -5,8 +5,6 @@ mod fault;
 mod line;
 mod numbers;
 mod request;
-#[cfg(test)]
-mod tests;
 mod words;
 
 pub use fault::WordsFault;

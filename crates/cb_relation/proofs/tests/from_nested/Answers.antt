@@ -1,8 +1,0 @@
-use Rattle.std.proofs.Common.{sym, subst, []}
-use Rattle.cb_spec.specs.Stores.{empty}
-use Rattle.cb_relation.specs.Performing.{CanRun}
-use Rattle.cb_relation.proofs.ExampleLemmas.{nested_can_run}
-use Rattle.cb_relation.proofs.tests.from_nested.Goals as goal
-
-pub written-requires : goal.written-requires
-written-requires c = subst (CanRun [] empty) (sym c.in_ok-subst.ensures) nested_can_run

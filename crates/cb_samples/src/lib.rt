@@ -1,0 +1,7 @@
+//! Tests of calls that no command of the program makes yet.
+#![tactic(auto)]
+
+#[cfg(test)]
+mod evaluating;
+#[cfg(test)]
+mod performing;
