@@ -5,3 +5,7 @@
 mod evaluating;
 #[cfg(test)]
 mod performing;
+#[cfg(test)]
+mod printing;
+#[cfg(test)]
+mod words;

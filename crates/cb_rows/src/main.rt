@@ -1,0 +1,65 @@
+//! Runs the rows of standard input, and prints those that answer otherwise than they state, and how many there are.
+//!
+//! A row begins with `%% run WORDS`, the words of a command. `%% file NAME` begins a file of the row, whose lines follow, with no
+//! line's end behind the last one; `%% times N PIECE` adds a piece to it so many times, with no line's end round it. `%% read N` and
+//! `%% write N` make the Nth read and the Nth write on standard output fail. `%% status N` begins what is printed on both sinks. There
+//! and in a file `%% each N LINE` stands for N lines, with the numbers from 1 to N for `@`.
+#![tactic(auto)]
+
+mod row;
+
+use cb_edge::{MemFiles, MemSink, NoGate};
+use cb_top::command;
+use row::Row;
+use std::alloc::Global;
+use std::io;
+use std::str;
+use std::sync::Wait;
+use std::thread::Threads;
+
+// Room for what a command of a row prints.
+const ROOM: usize = 1 << 20;
+
+// Whether the command answers what the row states. If not, this is printed.
+fn agrees<R: Threads + Wait + Sync + Print>(rt: &R, alloc: Global, row: Row) -> io::Result<bool> {
+    let mut files = MemFiles::new(alloc, row.files, row.reads)?;
+    let mut out = MemSink::new(alloc, 64, row.writes);
+    let mut err = MemSink::new(alloc, 64, Vec::new(alloc));
+    out.reserve(ROOM)?;
+    err.reserve(ROOM)?;
+    let status = command(rt, alloc, &row.words, &mut files, &mut out, &mut err, &NoGate);
+    let mut printed = out.bytes().to_vec(alloc)?;
+    printed.extend_from_slice(err.bytes())?;
+    let holds = row.status == Some(status) && printed == row.printed;
+    if !holds {
+        let text = str::from_utf8(&printed).unwrap_or("bytes that are no text");
+        println!(rt; "line {}: status {status}\n{text}", row.line)?;
+    }
+    Ok(holds)
+}
+
+fn main(rt: HostRuntime) -> io::Result<()> {
+    let alloc = rt.alloc();
+    let text = io::read_to_string(alloc, rt.stdin())?;
+    let mut rows = 0u64;
+    let mut agreed = 0u64;
+    let mut last: Option<Row> = None;
+    let mut number = 0u64;
+    for line in text.lines() {
+        number = number.saturating_add(1);
+        if let Some(words) = line.strip_prefix("%% run") {
+            if let Some(row) = last.take() {
+                rows = rows.saturating_add(1);
+                agreed = agreed.saturating_add(u64::from(agrees(&rt, alloc, row)?));
+            }
+            last = Some(Row::new(alloc, number, words)?);
+        } else if let Some(row) = &mut last {
+            row.add(alloc, line)?;
+        }
+    }
+    if let Some(row) = last {
+        rows = rows.saturating_add(1);
+        agreed = agreed.saturating_add(u64::from(agrees(&rt, alloc, row)?));
+    }
+    println!(rt; "{agreed} of {rows} rows as stated")
+}

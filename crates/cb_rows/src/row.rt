@@ -1,0 +1,103 @@
+//! A row: the words of a command, its files, and what it is to answer.
+
+use std::alloc::{AllocError, Global};
+
+/// A row, as far as it has been read.
+#[derive(Drop)]
+pub struct Row {
+    /// The line on which it begins.
+    pub line: u64,
+    pub words: Vec<String>,
+    pub files: Vec<(String, Vec<u8>)>,
+    /// The reads and the writes that fail, by their numbers.
+    pub reads: Vec<u64>,
+    pub writes: Vec<u64>,
+    /// None where it isn't stated.
+    pub status: Option<u8>,
+    pub printed: Vec<u8>,
+    // whether a line's end is due before the next line of the file
+    ended: bool,
+}
+
+impl Row {
+    /// The row of these words, with no file.
+    pub fn new(alloc: Global, line: u64, words: &str) -> Result<Row, AllocError> {
+        let mut all = Vec::new(alloc);
+        for word in words.split_whitespace() {
+            all.push(String::from_str(alloc, word)?)?;
+        }
+        Ok(Row {
+            line,
+            words: all,
+            files: Vec::new(alloc),
+            reads: Vec::new(alloc),
+            writes: Vec::new(alloc),
+            status: None,
+            printed: Vec::new(alloc),
+            ended: false,
+        })
+    }
+
+    /// Takes the next line of the row.
+    pub fn add(&mut self, alloc: Global, line: &str) -> Result<(), AllocError> {
+        match line.strip_prefix("%% ") {
+            Some(rest) => match rest.split_once(' ') {
+                Some((verb, argument)) => self.direct(alloc, verb, argument),
+                None => Ok(()),
+            },
+            None => self.add_line(line),
+        }
+    }
+
+    fn add_line(&mut self, line: &str) -> Result<(), AllocError> {
+        if self.status.is_some() {
+            self.printed.extend_from_slice(line.as_bytes())?;
+            self.printed.push(b'\n')?;
+        } else if let Some(file) = self.files.last_mut() {
+            if self.ended {
+                file.1.push(b'\n')?;
+            }
+            file.1.extend_from_slice(line.as_bytes())?;
+            self.ended = true;
+        }
+        Ok(())
+    }
+
+    fn direct(&mut self, alloc: Global, verb: &str, argument: &str) -> Result<(), AllocError> {
+        match verb {
+            "file" => {
+                self.ended = false;
+                self.files
+                    .push((String::from_str(alloc, argument)?, Vec::new(alloc)))?;
+            }
+            "times" => self.add_times(argument)?,
+            "each" => self.add_each(alloc, argument)?,
+            "read" => self.reads.push(argument.parse::<u64>().unwrap_or(0))?,
+            "write" => self.writes.push(argument.parse::<u64>().unwrap_or(0))?,
+            _ => self.status = argument.parse::<u8>().ok(),
+        }
+        Ok(())
+    }
+
+    fn add_times(&mut self, argument: &str) -> Result<(), AllocError> {
+        self.ended = false;
+        if let (Some((count, piece)), Some(file)) = (argument.split_once(' '), self.files.last_mut())
+        {
+            for _ in 0..count.parse::<u32>().unwrap_or(0) {
+                file.1.extend_from_slice(piece.as_bytes())?;
+            }
+        }
+        Ok(())
+    }
+
+    fn add_each(&mut self, alloc: Global, argument: &str) -> Result<(), AllocError> {
+        if let Some((count, text)) = argument.split_once(' ') {
+            for number in 1..=count.parse::<u32>().unwrap_or(0) {
+                let number = format!(in alloc; "{number}")?;
+                let line = text.replace(alloc, "@", number.as_str())?;
+                self.add_line(line.as_str())?;
+            }
+        }
+        Ok(())
+    }
+}

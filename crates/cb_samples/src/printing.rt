@@ -1,0 +1,35 @@
+//! Machines are printed as they are written, with a blank behind each token.
+
+use cb_amn_parse::machine;
+use cb_amn_print::print_machine;
+use cb_grammar::SyntaxFault;
+use cb_lex::lexer::{LONGEST_TEXT, tokens};
+use std::alloc::Global;
+use std::process::Abort;
+
+const BOX: &str = "MACHINE Box VARIABLES n INVARIANT n : 0 .. 9 INITIALISATION n := 0 OPERATIONS add ( k ) = PRE k : 1 .. 9 & n + k <= 9 THEN n := n + k END ; r <-- take = PRE n > 0 THEN r := n || n := 0 END END ";
+
+const ROOMS: &str = "MACHINE Rooms SETS ROOM = { r1 , r2 , r3 } VARIABLES busy INVARIANT busy <: ROOM & card ( busy ) <= 2 INITIALISATION busy := { } OPERATIONS book ( x ) = PRE x : ROOM & x /: busy & card ( busy ) < 2 THEN busy := busy \\/ { x } END ; leave ( x ) = PRE x : ROOM & x : busy THEN busy := busy - { x } END END ";
+
+// What is printed of the machine of the text.
+fn printed(rt: &impl Abort, alloc: Global, text: &str) -> Result<Vec<u8>, SyntaxFault> {
+    assert!(rt; text.len() <= LONGEST_TEXT);
+    match tokens(alloc, text.as_bytes()) {
+        Ok(tokens) => {
+            assert!(rt; !tokens.is_empty());
+            let read = machine(alloc, &tokens, 0)?;
+            Ok(print_machine(alloc, &read.0)?)
+        }
+        Err(_) => Err(SyntaxFault::Memory),
+    }
+}
+
+#[test]
+fn prints_what_is_read(rt: HostRuntime) {
+    for text in [BOX, ROOMS] {
+        match printed(&rt, rt.alloc(), text) {
+            Ok(bytes) => assert_eq!(rt; bytes.as_slice(), text.as_bytes()),
+            Err(fault) => assert_eq!(rt; Some(fault), None),
+        }
+    }
+}
