@@ -39,6 +39,8 @@ pub fn command<R: Threads + Wait + Sync, F: Files, K: Sink, E: Sink, G: Gate + S
         (change K.written K.faults out.old out.new) (change E.written E.faults err.old err.new) result) }
     ensures reads { (request : Request) → spelled (map string_bytes words.now) ≡ Some request →
         CanBeRead (F.sure files.old) (F.faults files.old) (names_of request) → result ≢ 4 }
+    ensures safe { (names : List (List ℕ)) → spelled (map string_bytes words.now) ≡ Some (variants.Check names) → result ≡ 0 →
+        (contents : List (List ℕ)) → AreHeld (F.held files.old) names contents → IsSafe (joined contents) }
 {
     match words_of(alloc, words) {
         Ok(request) => quiet_command(alloc, &request, files, out, err),

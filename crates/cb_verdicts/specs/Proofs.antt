@@ -9,9 +9,8 @@ use Rattle.cb_seq.specs.declared.sequent.Group.TheVariants as group
 use Rattle.cb_seq.specs.declared.sequent.ObName.{ObName}
 use Rattle.cb_seq.specs.declared.sequent.Obligation.{Obligation}
 use Rattle.cb_trace.specs.Texts.{obligation_text}
-use Rattle.cb_lex.specs.declared.raw.name.RawName.{RawName}
 use Rattle.cb_lex.specs.declared.raw.proof.RawNumber.{RawNumber}
-use Rattle.cb_term.specs.declared.name.Name.{Name}
+use Rattle.cb_arguments.specs.Scopes.{name_of}
 use Rattle.cb_verdicts.specs.declared.places.ProofFault.{ProofFault}
 use Rattle.cb_verdicts.specs.declared.places.ProofFault.TheVariants as fault
 
@@ -24,9 +23,6 @@ natural (negsuc n) = 0
 
 abbrev pub count : RawNumber → ℕ
 count n = natural n.value
-
-abbrev pub name_of : RawName → Name
-name_of x = record { text = x.text; number = x.number }
 
 abbrev pub group_of : List ℕ → Group
 group_of w =

@@ -4,11 +4,10 @@ ghost use Rattle.std.specs.Prelude.{◌≡◌, IfOk};
 ghost use Rattle.cb_trace.specs.Texts.{obligation_text};
 ghost use Rattle.cb_verdicts.specs.Proofs as spec;
 
-use cb_lex::raw::name::RawName;
+use cb_arguments::scope::copy_name;
 use cb_lex::raw::proof::{RawNumber, RawObligation};
 use cb_seq::sequent::{Group, ObName};
 use cb_term::Memory;
-use cb_term::name::{Name, NameText};
 use cb_trace::listing::put_obligation;
 use std::alloc::Global;
 
@@ -20,15 +19,6 @@ pub(crate) fn number(number: RawNumber) -> u64
         Ok(n) => n,
         Err(_) => 0,
     }
-}
-
-fn copy_name(alloc: Global, name: &RawName) -> Result<Name, Memory>
-    ensures { IfOk result (λ x. x ≡ spec.name_of name.now) }
-{
-    Ok(Name {
-        text: NameText::from_slice(alloc, name.text.as_slice())?,
-        number: name.number,
-    })
 }
 
 fn group_of(word: &[u8]) -> Group
