@@ -32,7 +32,7 @@ use Rattle.cb_amn_parse.specs.Lexemes.{Named, Did}
 use Rattle.cb_amn_parse.specs.Formulas.{term_out, formula_out, name_entry, names_out}
 use Rattle.cb_amn_parse.specs.Machines.{literal_out, end_out, bound_out, bound_action, domain_out, subst_out, choice_out}
 use Rattle.cb_amn_print.specs.Tokens.{name_sort}
-use Rattle.cb_amn_print.specs.Machines.{IsFullSubst, AreFullSides}
+use Rattle.cb_shapes.specs.Full.{IsFullSubst, AreFullSides}
 use Rattle.cb_amn_print.proofs.Scripts.{Piece, Done, nothing}
 use Rattle.cb_amn_print.proofs.Lines.{Good, join, sign_taken, word_taken, word_kept, number_kept, name_kept, act, by_line, by_table}
 use Rattle.cb_amn_print.proofs.Spelled.{Laws, Fine, AllFine, parted, term_good, formula_good}

@@ -3,7 +3,8 @@ use Rattle.std.proofs.Common.{◌≡◌, ℕ, Bool, true, false, List, [], ◌�
 use Rattle.std.specs.Prelude.{map, Ok, drop, ◌-◌}
 use Rattle.cb_written.specs.Texts.{OperationIsWritten}
 use Rattle.cb_amn_parse.specs.Machines.{machine_out}
-use Rattle.cb_amn_print.specs.Machines.{machine_text, IsFull}
+use Rattle.cb_shapes.specs.Laws.{MachineIsFull}
+use Rattle.cb_amn_print.specs.Machines.{machine_text}
 use Rattle.cb_amn_print.proofs.WholePieces.{machine_script, machine-text, machine-told}
 use Rattle.cb_amn_print.proofs.MachineSpelled.{MoreLaws}
 use Rattle.cb_amn_print.proofs.WholeSpelled.{machine_good}
@@ -17,7 +18,7 @@ use Rattle.cb_grammar.specs.Misreadings.{language, symbols_of}
 use Rattle.cb_amn_parse.specs.Lexemes.{Lexeme}
 use Rattle.cb_amn_parse.specs.Formulas.{formula_out, term_out}
 use Rattle.cb_amn_print.specs.Formulas.{formula_text, term_text}
-use Rattle.cb_amn_print.specs.Printed.{unplaced, SpellsBack, IsPrintedBack, IsFullPrintedBack}
+use Rattle.cb_amn_print.specs.Printed.{unplaced, SpellsBack, IsPrintedBack}
 use Rattle.cb_amn_print.proofs.Scripts.{Piece, text_of, told_of, items, cut_of}
 use Rattle.cb_amn_print.proofs.Pieces.{formula_script, term_script, formula-text, term-text, formula-told, term-told}
 use Rattle.cb_amn_print.proofs.Lines.{Good}
@@ -52,9 +53,10 @@ formula_printed_back laws = printed_back part.Formula (formula_text false) formu
 pub term_printed_back : Laws → IsPrintedBack (term_text false) term_out part.Term
 term_printed_back laws = printed_back part.Term (term_text false) term_out (term_script false) refl (term-text false) (term-told false) (λ opened t q. (term_good opened laws t q).1)
 
--- of a machine without what no text spells
-pub machine_printed_back : MoreLaws → OperationIsWritten → IsFullPrintedBack machine_text machine_out IsFull part.Machine
-machine_printed_back m o bytes all depth opened from to x u lexed spelled =
+-- each spelled machine is full
+pub machine_printed_back : MachineIsFull → MoreLaws → OperationIsWritten → IsPrintedBack machine_text machine_out part.Machine
+machine_printed_back full m o bytes all depth opened from to x lexed spelled =
     let a = dropped_read from all (lexed_read lexed) in
     let f = spelled_fine part.Machine depth opened (drop from all) (to - from) (machine_out x) refl a spelled.spelled in
+    let u = full depth opened (drop from all) (to - from) x spelled.spelled in
     spells_back part.Machine opened (machine_script x) (machine_text x) (machine_out x) (machine-text x) (machine-told x) (machine_good opened m o x u f)

@@ -20,7 +20,8 @@ use Rattle.cb_amn_parse.specs.Lexemes.{Lexeme, Named, Did}
 use Rattle.cb_amn_parse.specs.Formulas.{formula_out, names_out, condition_out}
 use Rattle.cb_amn_parse.specs.Machines.{subst_out, set_entry, sets_out, property_entry, properties_out, state_out, operation_entry, operations_out, machine_out}
 use Rattle.cb_amn_print.specs.Tokens.{said, only_if}
-use Rattle.cb_amn_print.specs.Machines.{some, names_text, set_text, sets_text, property_text, properties_text, state_text, body_text, operation_text, operations_text, part_text, machine_text}
+use Rattle.cb_shapes.specs.Full.{some}
+use Rattle.cb_amn_print.specs.Machines.{names_text, set_text, sets_text, property_text, properties_text, state_text, body_text, operation_text, operations_text, part_text, machine_text}
 use Rattle.cb_amn_print.specs.Printed.{unplaced}
 use Rattle.cb_amn_print.proofs.Scripts.{Piece, Done, text_of, told_of, text-append, told-append, text-both}
 use Rattle.cb_amn_print.proofs.Pieces.{open_piece, close_piece, formula_script, formula-text, formula-told, told-name, bare}

@@ -24,7 +24,7 @@ use Rattle.cb_written.specs.Texts.OperationLine.{operation}
 use Rattle.cb_amn_parse.specs.Lexemes.{Named, Did}
 use Rattle.cb_amn_parse.specs.Formulas.{formula_out, names_out, condition_out}
 use Rattle.cb_amn_parse.specs.Machines.{literal_out, subst_out, set_entry, sets_out, property_entry, properties_out, state_out, operation_entry, operations_out, machine_out}
-use Rattle.cb_amn_print.specs.Machines.{some, IsFullSubst, AllOf, IsFullState, IsFull}
+use Rattle.cb_shapes.specs.Full.{some, IsFullSubst, AllOf, IsFullState, IsFull}
 use Rattle.cb_amn_print.proofs.Scripts.{Piece, Done}
 use Rattle.cb_amn_print.proofs.Lines.{Good, join, sign_taken, word_taken, act, by_line, by_table}
 use Rattle.cb_amn_print.proofs.Spelled.{AllFine, parted, formula_good}

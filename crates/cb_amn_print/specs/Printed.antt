@@ -32,8 +32,3 @@ pub record SpellsBack (p : Part) (opened : Bool) (bytes : List ℕ) (out : List 
 abbrev pub IsPrintedBack : {X : Type 0} → (X → List ℕ) → (X → List Lexeme) → Part → Type 0
 IsPrintedBack {X = X} text_of out p =
     (bytes : List ℕ) (all : List Token) (depth : ℕ) (opened : Bool) (from to : ℕ) (x : X) → Lexes bytes start (Ok all) → SpellsFrom p depth opened all from to (out x) → SpellsBack p opened (text_of x) (out x)
-
--- so it is with a value that is full
-abbrev pub IsFullPrintedBack : {X : Type 0} → (X → List ℕ) → (X → List Lexeme) → (X → Type 0) → Part → Type 0
-IsFullPrintedBack {X = X} text_of out IsFull p =
-    (bytes : List ℕ) (all : List Token) (depth : ℕ) (opened : Bool) (from to : ℕ) (x : X) → IsFull x → Lexes bytes start (Ok all) → SpellsFrom p depth opened all from to (out x) → SpellsBack p opened (text_of x) (out x)

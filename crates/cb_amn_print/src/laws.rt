@@ -3,15 +3,16 @@
 ghost use Rattle.cb_grammar.specs.declared.parts.Part.TheVariants as part;
 ghost use Rattle.cb_amn_parse.specs.Formulas.{formula_out, term_out};
 ghost use Rattle.cb_amn_print.specs.Formulas.{formula_text, term_text};
-ghost use Rattle.cb_amn_print.specs.Printed.{IsPrintedBack, IsFullPrintedBack};
+ghost use Rattle.cb_amn_print.specs.Printed.{IsPrintedBack};
 ghost use Rattle.std.specs.Prelude.{false};
 ghost use Rattle.cb_grammar.specs.Written.{LinesArePlain, FormulaIsWritten, PartIsWritten, TermIsWritten, SumIsWritten, ProductIsWritten, SubstitutionIsWritten};
 ghost use Rattle.cb_written.specs.Substitutions.{SimpleIsWritten, DomainIsWritten, BoundIsWritten};
 ghost use Rattle.cb_amn_parse.specs.Machines.{machine_out};
-ghost use Rattle.cb_amn_print.specs.Machines.{machine_text, IsFull};
+ghost use Rattle.cb_amn_print.specs.Machines.{machine_text};
 ghost use Rattle.cb_written.specs.Units.{UnitIsWritten};
 
 use cb_grammar::laws as grammar;
+use cb_shapes::laws as shapes;
 use cb_written::laws as written;
 
 fn lines_of_formulas()
@@ -64,13 +65,13 @@ pub fn term_is_printed_back()
     lines_of_terms();
 }
 
-/// What is printed of a machine that some text spells, spells this machine again, places aside. The machine has no set
-/// without elements, no VARIABLES without names, no CONSTANTS or PROPERTIES alone, and no CHOICE of less than two sides.
+/// What is printed of a machine that some text spells, spells this machine again, places aside.
 pub fn machine_is_printed_back()
-    ensures { IsFullPrintedBack machine_text machine_out IsFull part.Machine }
+    ensures { IsPrintedBack machine_text machine_out part.Machine }
 {
     lines_of_formulas();
     lines_of_terms();
     lines_of_substitutions();
     written::operation_is_written();
+    shapes::machine_is_full();
 }
