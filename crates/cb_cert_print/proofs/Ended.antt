@@ -14,7 +14,7 @@ use Rattle.cb_engine.specs.declared.Terminal.{Terminal}
 use Rattle.cb_engine.specs.declared.Item.{Item}
 use Rattle.cb_engine.specs.declared.Item.TheVariants as item
 use Rattle.cb_grammar.specs.Classes.{keyword_class, sign_class, words}
-use Rattle.cb_grammar.specs.Terminals.{class_of, class_in, word_class, terminals, opens}
+use Rattle.cb_grammar.specs.Terminals.{class_of, class_in, terminals, opens}
 use Rattle.cb_amn_parse.specs.Lexemes.{Lexeme, Lost, heard_at, heard, lexeme, lexemes}
 use Rattle.cb_amn_print.specs.Printed.{unplaced}
 use Rattle.cb_amn_print.proofs.Scripts.{Piece, Silent, Kept, Done, terms, items, told_of}

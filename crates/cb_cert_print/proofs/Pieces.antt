@@ -18,7 +18,7 @@ use Rattle.cb_lex.specs.RawCertTree.{RawCertTree, RawCerts}
 use Rattle.cb_lex.specs.RawCertTree as tree
 use Rattle.cb_grammar.specs.declared.actions.TheConstants as action
 use Rattle.cb_amn_parse.specs.Lexemes.{Lexeme, Named, Did}
-use Rattle.cb_amn_parse.specs.Formulas.{term_out, formula_out}
+use Rattle.cb_amn_parse.specs.Formulas.{term_out}
 use Rattle.cb_amn_parse.specs.Proofs.{numeral, obligation_out, row_action, row_entry, arguments_out, rule_action, node_out, children_out, proof_entry, proofs_out}
 use Rattle.cb_amn_print.specs.Tokens.{said, only_if}
 use Rattle.cb_amn_print.specs.Formulas.{term_text, formula_text}

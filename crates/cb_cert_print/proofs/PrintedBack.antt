@@ -1,8 +1,7 @@
 -- What is printed of proofs spells them again.
-use Rattle.std.proofs.Common.{◌≡◌, ℕ, zero, suc, Bool, true, false, List, [], ◌∷◌, ◌++◌, drop, refl, ap, sym, ◌∙◌, arith, eqb, subst, inl}
-use Rattle.std.specs.Prelude.{map, Ok, slice_get}
+use Rattle.std.proofs.Common.{◌≡◌, ℕ, zero, suc, Bool, true, false, List, [], ◌∷◌, ◌++◌, drop, refl, sym, ◌∙◌, arith, eqb, subst, inl}
+use Rattle.std.specs.Prelude.{Ok, slice_get}
 use Rattle.std.specs.List.{flat_map}
-use Rattle.std.proofs.lemmas.List.{append-nil}
 use Rattle.cb_lex.specs.declared.token.Place.{Place}
 use Rattle.cb_lex.specs.declared.token.Token.{Token}
 use Rattle.cb_lex.specs.declared.token.Sort.{Sort}
@@ -23,9 +22,8 @@ use Rattle.cb_grammar.specs.Numbers as part
 use Rattle.cb_grammar.specs.Terminals.{terminals}
 use Rattle.cb_amn_parse.specs.Lexemes.{Lexeme, heard_at, heard, lexemes}
 use Rattle.cb_amn_parse.specs.Proofs.{proofs_out}
-use Rattle.cb_amn_print.specs.Printed.{unplaced}
 use Rattle.cb_amn_print.proofs.Fronts.{IsToken}
-use Rattle.cb_amn_print.proofs.Scripts.{Piece, Silent, text_of, told_of, terms, items, silent, and_then, cut_of}
+use Rattle.cb_amn_print.proofs.Scripts.{Piece, terms, items, silent, and_then, cut_of}
 use Rattle.cb_amn_print.proofs.Lines.{Good, plain, numbered}
 use Rattle.cb_amn_print.proofs.Premises.{AllTokens, lexed_read, dropped_read}
 use Rattle.cb_amn_print.proofs.Spelled.{Laws, Fine, AllFine}

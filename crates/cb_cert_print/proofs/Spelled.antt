@@ -24,7 +24,7 @@ use Rattle.cb_grammar.specs.declared.actions.TheConstants as action
 use Rattle.cb_grammar.specs.Classes.{keyword_class, sign_class, words}
 use Rattle.cb_grammar.specs.Numbers as part
 use Rattle.cb_grammar.specs.Written.{opening, closing}
-use Rattle.cb_amn_parse.specs.Lexemes.{Lexeme, Named, Did}
+use Rattle.cb_amn_parse.specs.Lexemes.{Named, Did}
 use Rattle.cb_amn_parse.specs.Formulas.{term_out, formula_out}
 use Rattle.cb_amn_parse.specs.Proofs.{numeral, obligation_out, row_out, row_entry, arguments_out, rule_action, node_out, children_out, proof_entry, proofs_out}
 use Rattle.cb_amn_print.proofs.Scripts.{Piece, Silent, Done, silent, nothing}
@@ -34,7 +34,7 @@ use Rattle.cb_amn_print.proofs.Spelled.{Laws, Fine, AllFine, parted, term_good, 
 use Rattle.cb_amn_print.proofs.MachinePieces.{word, name}
 use Rattle.cb_amn_print.specs.Tokens.{name_sort}
 use Rattle.cb_cert_print.specs.Full.{IsWordOf, words_of, HasRows, IsFullCert, AreFullCerts, IsFullObligation, AreFull}
-use Rattle.cb_cert_print.proofs.Pieces.{number, colon, obligation_script, row_script, rows_rest, rows_script, boxed, arguments_script, cert_script, children_script, certs_rest, each_script, proofs_script}
+use Rattle.cb_cert_print.proofs.Pieces.{number, colon, obligation_script, row_script, rows_rest, boxed, arguments_script, cert_script, children_script, certs_rest, each_script, proofs_script}
 use Rattle.cb_cert_print.proofs.Keyed.{G, by_key, AllKeyed, by_word, by_table_on}
 
 -- ---- the lines of the table
