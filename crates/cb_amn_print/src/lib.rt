@@ -12,6 +12,7 @@ pub use formulas::{print_formula, print_term, put_formula, put_term};
 pub use machines::print_machine;
 use std::alloc::AllocError;
 pub use substitutions::{put_domain, put_subst};
+pub use tokens::{put, put_if, put_name, put_number};
 
 /// Want of memory.
 pub type Memory = AllocError;

@@ -11,7 +11,7 @@ use cb_lex::raw::sign::{RawAtom, RawOperator, RawRelation};
 use std::alloc::Global;
 
 /// Appends bytes as they are.
-pub(crate) fn put(out: &mut Vec<u8>, bytes: &[u8]) -> Result<(), Memory>
+pub fn put(out: &mut Vec<u8>, bytes: &[u8]) -> Result<(), Memory>
     ensures { OnOk result (out.new.items ≡ out.old.items ++ bytes.now) }
 {
     out.extend_from_slice(bytes)?;
@@ -19,14 +19,14 @@ pub(crate) fn put(out: &mut Vec<u8>, bytes: &[u8]) -> Result<(), Memory>
 }
 
 /// Appends the bytes where they are wanted.
-pub(crate) fn put_if(out: &mut Vec<u8>, wanted: bool, bytes: &[u8]) -> Result<(), Memory>
+pub fn put_if(out: &mut Vec<u8>, wanted: bool, bytes: &[u8]) -> Result<(), Memory>
     ensures { OnOk result (out.new.items ≡ out.old.items ++ only_if wanted bytes.now) }
 {
     if wanted { put(out, bytes) } else { Ok(()) }
 }
 
 /// Appends a number.
-pub(crate) fn put_number(alloc: Global, out: &mut Vec<u8>, number: i64) -> Result<(), Memory>
+pub fn put_number(alloc: Global, out: &mut Vec<u8>, number: i64) -> Result<(), Memory>
     ensures { OnOk result (out.new.items ≡ out.old.items ++ said (sort.Number number)) }
 {
     let digits = number.to_string(alloc)?;
@@ -35,7 +35,7 @@ pub(crate) fn put_number(alloc: Global, out: &mut Vec<u8>, number: i64) -> Resul
 }
 
 /// Appends a name: `x` as written, `x#k` opened.
-pub(crate) fn put_name(alloc: Global, out: &mut Vec<u8>, name: &RawName) -> Result<(), Memory>
+pub fn put_name(alloc: Global, out: &mut Vec<u8>, name: &RawName) -> Result<(), Memory>
     ensures { OnOk result (out.new.items ≡ out.old.items ++ name_text name.now) }
 {
     put(out, name.text.as_slice())?;

@@ -1,0 +1,6 @@
+pub mod Children
+pub mod Pieces
+pub mod Keyed
+pub mod Spelled
+pub mod Ended
+pub mod PrintedBack

@@ -1,0 +1,21 @@
+//! What is printed is read again. The function does nothing: its contract is the law.
+
+ghost use Rattle.cb_cert_print.specs.Printed.{ArePrintedBack};
+
+use cb_grammar::laws as grammar;
+use cb_written::laws as written;
+
+/// What is printed of proofs that some text spells, one behind another, spells these proofs again, places aside. In the
+/// proofs each rule has the arguments and the premises that its word takes, LIN has a row, and the names of obligations
+/// have the parts that their groups have.
+pub fn proofs_are_printed_back()
+    ensures { ArePrintedBack }
+{
+    grammar::lines_are_plain();
+    grammar::formula_is_written();
+    grammar::part_is_written();
+    grammar::term_is_written();
+    grammar::sum_is_written();
+    grammar::product_is_written();
+    written::unit_is_written();
+}
