@@ -1,7 +1,7 @@
 -- Lists of terms and of substitutions as trees hold them.
-use Rattle.std.proofs.Common.{◌≡◌, List, [], ◌∷◌, map, refl, ap}
-use Rattle.cb_lex.specs.RawTermTree.{RawTermTree, raw_terms}
-use Rattle.cb_lex.specs.RawSubstTree.{RawSubstTree, raw_substs}
+use Rattle.std.proofs.Common.{◌≡◌, ◌≤◌, ◌<◌, ℕ, zero, suc, List, [], ◌∷◌, map, length, get_or, refl, ap, arith}
+use Rattle.cb_lex.specs.RawTermTree.{RawTermTree, raw_terms, term_nodes, terms_nodes}
+use Rattle.cb_lex.specs.RawSubstTree.{RawSubstTree, raw_substs, subst_nodes, substs_nodes}
 use Rattle.cb_term.specs.Tree.{trees_of}
 use Rattle.cb_term.specs.Tree as tree
 use Rattle.cb_spec.specs.SubstTree.{sides_of}
@@ -18,3 +18,15 @@ normal_terms v names (t ∷ ts) = ap (tree.More (term_in v names t)) (normal_ter
 pub normal_substs : (v : View) (names : Names) (ss : List RawSubstTree) → substs_in v names (raw_substs ss) ≡ sides_of (map (subst_in v names) ss)
 normal_substs v names [] = refl
 normal_substs v names (s ∷ ss) = ap (subst_tree.More (subst_in v names s)) (normal_substs v names ss)
+
+-- a term has no more nodes than all
+pub item_nodes : (ts : List RawTermTree) (i : ℕ) (t : RawTermTree) → i < length ts → t ≡ get_or ts i t → term_nodes t ≤ terms_nodes (raw_terms ts)
+item_nodes [] i t lt is = absurd (omega (arith, lt))
+item_nodes (x ∷ xs) zero t lt is = omega (arith, ap term_nodes is)
+item_nodes (x ∷ xs) (suc i) t lt is = omega (arith, item_nodes xs i t (omega (arith, lt)) is)
+
+-- a side has no more nodes than all
+pub side_nodes : (ss : List RawSubstTree) (i : ℕ) (s : RawSubstTree) → i < length ss → s ≡ get_or ss i s → subst_nodes s ≤ substs_nodes (raw_substs ss)
+side_nodes [] i s lt is = absurd (omega (arith, lt))
+side_nodes (x ∷ xs) zero s lt is = omega (arith, ap subst_nodes is)
+side_nodes (x ∷ xs) (suc i) s lt is = omega (arith, side_nodes xs i s (omega (arith, lt)) is)

@@ -1,9 +1,12 @@
 //! Terms and formulas in normal form.
 
 ghost use Rattle.std.specs.Prelude.{◌≡◌, IfOk, OnOk, length};
+ghost use Rattle.cb_lex.specs.RawTermTree as raw;
+ghost use Rattle.cb_term.specs.Tree as tree;
 ghost use Rattle.cb_spec.specs.Domains.{kind_of};
 ghost use Rattle.cb_forms.specs.Find.{found};
-ghost use Rattle.cb_normal.specs.Normal.{written, index_of, meaning_term, named, range, atom_term, sign_of, minus, related, domain_or, term_in, formula_in};
+ghost use Rattle.cb_judge.specs.Judged.{under};
+ghost use Rattle.cb_normal.specs.Normal.{written, index_of, meaning_term, named, range, atom_term, sign_of, minus, related, domain_or, term_in, terms_in, formula_in};
 
 use cb_forms::table::Table;
 use cb_judge::domain::{Choice, MAXINT, typing};
@@ -72,7 +75,7 @@ fn of_name(
 {
     match entry {
         None => Ok(Term::var(copy_name(alloc, name)?)),
-        Some(e) => Ok(of_meaning(alloc, known, name, e.meaning)?),
+        Some(e) => of_meaning(alloc, known, name, e.meaning),
     }
 }
 
@@ -80,7 +83,7 @@ fn of_name(
 pub fn range_term(alloc: Global, lo: i64, hi: i64) -> Result<Term, Memory>
     ensures { IfOk result (λ t. t ≡ range lo hi) }
 {
-    Ok(Term::bin(alloc, TermSign::Range, Term::num(lo), Term::num(hi))?)
+    Term::bin(alloc, TermSign::Range, Term::num(lo), Term::num(hi))
 }
 
 /// The normal form of a word.
@@ -92,9 +95,9 @@ pub fn of_atom(alloc: Global, atom: RawAtom) -> Result<Term, Memory>
         RawAtom::False => Ok(Term::truth(false)),
         RawAtom::MaxInt => Ok(Term::num(MAXINT)),
         RawAtom::MinInt => Ok(Term::num(-MAXINT)),
-        RawAtom::Nat => Ok(range_term(alloc, 0, MAXINT)?),
-        RawAtom::Nat1 => Ok(range_term(alloc, 1, MAXINT)?),
-        RawAtom::Int => Ok(range_term(alloc, -MAXINT, MAXINT)?),
+        RawAtom::Nat => range_term(alloc, 0, MAXINT),
+        RawAtom::Nat1 => range_term(alloc, 1, MAXINT),
+        RawAtom::Int => range_term(alloc, -MAXINT, MAXINT),
         RawAtom::Truths => Ok(Term::truths()),
     }
 }
@@ -122,9 +125,9 @@ pub fn negation(alloc: Global, term: Term) -> Result<Term, Memory>
     match &term.node {
         TermNode::Num(n) => match n.checked_neg() {
             Some(m) => Ok(Term::num(m)),
-            None => Ok(Term::neg(alloc, term)?),
+            None => Term::neg(alloc, term),
         },
-        _ => Ok(Term::neg(alloc, term)?),
+        _ => Term::neg(alloc, term),
     }
 }
 
@@ -139,13 +142,13 @@ pub fn relation_of(
 {
     match relation {
         RawRelation::Equal => Ok(Formula::rel(RelSign::Equal, a, b)),
-        RawRelation::Unequal => Ok(Formula::not(alloc, Formula::rel(RelSign::Equal, a, b))?),
+        RawRelation::Unequal => Formula::not(alloc, Formula::rel(RelSign::Equal, a, b)),
         RawRelation::Less => Ok(Formula::rel(RelSign::Less, a, b)),
         RawRelation::AtMost => Ok(Formula::rel(RelSign::AtMost, a, b)),
         RawRelation::Greater => Ok(Formula::rel(RelSign::Less, b, a)),
         RawRelation::AtLeast => Ok(Formula::rel(RelSign::AtMost, b, a)),
         RawRelation::Member => Ok(Formula::rel(RelSign::Member, a, b)),
-        RawRelation::NotMember => Ok(Formula::not(alloc, Formula::rel(RelSign::Member, a, b))?),
+        RawRelation::NotMember => Formula::not(alloc, Formula::rel(RelSign::Member, a, b)),
         RawRelation::Subset => Ok(Formula::rel(RelSign::Subset, a, b)),
     }
 }
@@ -173,6 +176,20 @@ pub fn kind(domain: &Domain) -> Kind
     }
 }
 
+fn every(alloc: Global, name: &RawName, kind: Kind, body: Formula) -> Result<Formula, Memory>
+    ensures { IfOk result (λ f. f ≡ tree.Every (written name.now.text) kind body) }
+{
+    let name = copy_name(alloc, name)?;
+    Formula::every(alloc, name, kind, body)
+}
+
+fn exist(alloc: Global, name: &RawName, kind: Kind, body: Formula) -> Result<Formula, Memory>
+    ensures { IfOk result (λ f. f ≡ tree.Exist (written name.now.text) kind body) }
+{
+    let name = copy_name(alloc, name)?;
+    Formula::exist(alloc, name, kind, body)
+}
+
 /// The normal form of a term. The table ends as it began.
 #[cycle(normal)]
 pub fn normal_term(
@@ -185,48 +202,121 @@ pub fn normal_term(
     ensures kept { OnOk result (names.new ≡ names.old) }
 {
     match &term.node {
-        RawTermNode::Number { value, place: _ } => Ok(Term::num(*value)),
+        RawTermNode::Number { value, .. } => Ok(Term::num(*value)),
         RawTermNode::Name(name) => {
             let entry = names.find(name.text.as_slice());
-            Ok(of_name(alloc, names.len(), name, entry)?)
+            of_name(alloc, names.len(), name, entry)
         }
-        RawTermNode::Atom { atom, place: _ } => Ok(of_atom(alloc, *atom)?),
+        RawTermNode::Atom { atom, .. } => of_atom(alloc, *atom),
         RawTermNode::Binary {
             operator,
-            place: _,
             left,
             right,
-        } => {
-            let a = normal_term(alloc, view, names, left)?;
-            let b = normal_term(alloc, view, names, right)?;
-            Ok(Term::bin(alloc, sign(*operator), a, b)?)
-        }
-        RawTermNode::Minus {
-            place: _,
-            term: operand,
-        } => {
-            let a = normal_term(alloc, view, names, operand)?;
-            Ok(negation(alloc, a)?)
-        }
-        RawTermNode::Card {
-            place: _,
-            term: operand,
-        } => {
-            let a = normal_term(alloc, view, names, operand)?;
-            Ok(Term::card(alloc, a)?)
-        }
-        RawTermNode::TruthOf { place: _, formula } => {
-            let f = normal_formula(alloc, view, names, formula)?;
-            Ok(Term::bool_of(alloc, f)?)
-        }
-        RawTermNode::Listed { place: _, terms } => {
-            let mut listed = Items::new(alloc);
-            for item in terms.as_slice() {
-                listed.push(normal_term(alloc, view, names, item)?)?;
-            }
-            Ok(Term::listed(listed))
-        }
+            ..
+        } => normal_binary(alloc, view, names, *operator, left, right),
+        RawTermNode::Minus { term: operand, .. } => normal_minus(alloc, view, names, operand),
+        RawTermNode::Card { term: operand, .. } => normal_card(alloc, view, names, operand),
+        RawTermNode::TruthOf { formula, .. } => normal_truth(alloc, view, names, formula),
+        RawTermNode::Listed { terms, .. } => normal_listed(alloc, view, names, terms.as_slice()),
     }
+}
+
+// Both terms.
+#[cycle(normal)]
+fn both_terms(
+    alloc: Global,
+    view: &View,
+    names: &mut Table<Entry>,
+    left: &RawTerm,
+    right: &RawTerm,
+) -> Result<(Term, Term), Memory>
+    ensures left { IfOk result (λ p. p.0 ≡ term_in view.now names.old left.now) }
+    ensures right { IfOk result (λ p. p.1 ≡ term_in view.now names.old right.now) }
+    ensures kept { OnOk result (names.new ≡ names.old) }
+{
+    let a = normal_term(alloc, view, names, left)?;
+    let b = normal_term(alloc, view, names, right)?;
+    Ok((a, b))
+}
+
+// Two terms with an operator between them.
+#[cycle(normal)]
+fn normal_binary(
+    alloc: Global,
+    view: &View,
+    names: &mut Table<Entry>,
+    operator: RawOperator,
+    left: &RawTerm,
+    right: &RawTerm,
+) -> Result<Term, Memory>
+    ensures tree { IfOk result (λ t. t ≡ tree.Bin (sign_of operator) (term_in view.now names.old left.now) (term_in view.now names.old right.now)) }
+    ensures kept { OnOk result (names.new ≡ names.old) }
+{
+    let (a, b) = both_terms(alloc, view, names, left, right)?;
+    Term::bin(alloc, sign(operator), a, b)
+}
+
+// A minus before a term.
+#[cycle(normal)]
+fn normal_minus(
+    alloc: Global,
+    view: &View,
+    names: &mut Table<Entry>,
+    operand: &RawTerm,
+) -> Result<Term, Memory>
+    ensures tree { IfOk result (λ t. t ≡ minus (term_in view.now names.old operand.now)) }
+    ensures kept { OnOk result (names.new ≡ names.old) }
+{
+    let a = normal_term(alloc, view, names, operand)?;
+    negation(alloc, a)
+}
+
+// `card(..)`
+#[cycle(normal)]
+fn normal_card(
+    alloc: Global,
+    view: &View,
+    names: &mut Table<Entry>,
+    operand: &RawTerm,
+) -> Result<Term, Memory>
+    ensures tree { IfOk result (λ t. t ≡ tree.Card (term_in view.now names.old operand.now)) }
+    ensures kept { OnOk result (names.new ≡ names.old) }
+{
+    let a = normal_term(alloc, view, names, operand)?;
+    Term::card(alloc, a)
+}
+
+// `bool(..)`
+#[cycle(normal)]
+fn normal_truth(
+    alloc: Global,
+    view: &View,
+    names: &mut Table<Entry>,
+    formula: &RawFormula,
+) -> Result<Term, Memory>
+    ensures tree { IfOk result (λ t. t ≡ tree.Test (formula_in view.now names.old formula.now)) }
+    ensures kept { OnOk result (names.new ≡ names.old) }
+{
+    let f = normal_formula(alloc, view, names, formula)?;
+    Term::bool_of(alloc, f)
+}
+
+// `{..}`
+#[cycle(normal)]
+fn normal_listed(
+    alloc: Global,
+    view: &View,
+    names: &mut Table<Entry>,
+    terms: &[RawTerm],
+) -> Result<Term, Memory>
+    ensures tree { IfOk result (λ t. t ≡ tree.Listed (terms_in view.now names.old (raw.raw_terms terms.now))) }
+    ensures kept { OnOk result (names.new ≡ names.old) }
+{
+    let mut listed = Items::new(alloc);
+    for item in terms {
+        listed.push(normal_term(alloc, view, names, item)?)?;
+    }
+    Ok(Term::listed(listed))
 }
 
 /// The normal form of a formula. The table ends as it began.
@@ -243,61 +333,210 @@ pub fn normal_formula(
     match &formula.node {
         RawFormulaNode::True => Ok(Formula::btrue()),
         RawFormulaNode::False => Ok(Formula::bfalse()),
-        RawFormulaNode::Not(operand) => {
-            let f = normal_formula(alloc, view, names, operand)?;
-            Ok(Formula::not(alloc, f)?)
-        }
-        RawFormulaNode::And(left, right) => {
-            let f = normal_formula(alloc, view, names, left)?;
-            let g = normal_formula(alloc, view, names, right)?;
-            Ok(Formula::and(alloc, f, g)?)
-        }
-        RawFormulaNode::Or(left, right) => {
-            let f = normal_formula(alloc, view, names, left)?;
-            let g = normal_formula(alloc, view, names, right)?;
-            Ok(Formula::or(alloc, f, g)?)
-        }
-        RawFormulaNode::Implies(left, right) => {
-            let f = normal_formula(alloc, view, names, left)?;
-            let g = normal_formula(alloc, view, names, right)?;
-            Ok(Formula::implies(alloc, f, g)?)
-        }
-        RawFormulaNode::Equivalent(left, right) => {
-            let f = normal_formula(alloc, view, names, left)?;
-            let g = normal_formula(alloc, view, names, right)?;
-            Ok(Formula::iff(alloc, f, g)?)
-        }
+        RawFormulaNode::Not(operand) => normal_not(alloc, view, names, operand),
+        RawFormulaNode::And(left, right) => normal_and(alloc, view, names, left, right),
+        RawFormulaNode::Or(left, right) => normal_or(alloc, view, names, left, right),
+        RawFormulaNode::Implies(left, right) => normal_implies(alloc, view, names, left, right),
+        RawFormulaNode::Equivalent(left, right) => normal_iff(alloc, view, names, left, right),
         RawFormulaNode::Relation {
             relation,
-            place: _,
             left,
             right,
-        } => {
-            let a = normal_term(alloc, view, names, left)?;
-            let b = normal_term(alloc, view, names, right)?;
-            Ok(relation_of(alloc, *relation, a, b)?)
-        }
-        RawFormulaNode::Every { name, domain, body } => {
-            let choice = typing(names, view, name.text.as_slice(), domain);
-            let kind = kind(&domain_or_zero(&choice));
-            let written = copy_name(alloc, name)?;
-            let outside = names.len();
-            enter(alloc, names, name, &choice)?;
-            let d = normal_formula(alloc, view, names, domain)?;
-            let f = normal_formula(alloc, view, names, body)?;
-            names.leave(outside);
-            let body = Formula::implies(alloc, d, f)?;
-            Ok(Formula::every(alloc, written, kind, body)?)
-        }
-        RawFormulaNode::Exists { name, body } => {
-            let choice = typing(names, view, name.text.as_slice(), body);
-            let kind = kind(&domain_or_zero(&choice));
-            let written = copy_name(alloc, name)?;
-            let outside = names.len();
-            enter(alloc, names, name, &choice)?;
-            let f = normal_formula(alloc, view, names, body)?;
-            names.leave(outside);
-            Ok(Formula::exist(alloc, written, kind, f)?)
-        }
+            ..
+        } => normal_relation(alloc, view, names, *relation, left, right),
+        RawFormulaNode::Every { name, domain, body } => normal_every(
+            alloc, view, names, name, domain, body,
+        ),
+        RawFormulaNode::Exists { name, body } => normal_exists(alloc, view, names, name, body),
     }
+}
+
+// Both formulas.
+#[cycle(normal)]
+fn both_formulas(
+    alloc: Global,
+    view: &View,
+    names: &mut Table<Entry>,
+    left: &RawFormula,
+    right: &RawFormula,
+) -> Result<(Formula, Formula), Memory>
+    ensures left { IfOk result (λ p. p.0 ≡ formula_in view.now names.old left.now) }
+    ensures right { IfOk result (λ p. p.1 ≡ formula_in view.now names.old right.now) }
+    ensures kept { OnOk result (names.new ≡ names.old) }
+{
+    let f = normal_formula(alloc, view, names, left)?;
+    let g = normal_formula(alloc, view, names, right)?;
+    Ok((f, g))
+}
+
+// `not`
+#[cycle(normal)]
+fn normal_not(
+    alloc: Global,
+    view: &View,
+    names: &mut Table<Entry>,
+    operand: &RawFormula,
+) -> Result<Formula, Memory>
+    ensures tree { IfOk result (λ f. f ≡ tree.Not (formula_in view.now names.old operand.now)) }
+    ensures kept { OnOk result (names.new ≡ names.old) }
+{
+    let f = normal_formula(alloc, view, names, operand)?;
+    Formula::not(alloc, f)
+}
+
+// `&`
+#[cycle(normal)]
+fn normal_and(
+    alloc: Global,
+    view: &View,
+    names: &mut Table<Entry>,
+    left: &RawFormula,
+    right: &RawFormula,
+) -> Result<Formula, Memory>
+    ensures tree { IfOk result (λ f. f ≡ tree.And (formula_in view.now names.old left.now) (formula_in view.now names.old right.now)) }
+    ensures kept { OnOk result (names.new ≡ names.old) }
+{
+    let (f, g) = both_formulas(alloc, view, names, left, right)?;
+    Formula::and(alloc, f, g)
+}
+
+// `or`
+#[cycle(normal)]
+fn normal_or(
+    alloc: Global,
+    view: &View,
+    names: &mut Table<Entry>,
+    left: &RawFormula,
+    right: &RawFormula,
+) -> Result<Formula, Memory>
+    ensures tree { IfOk result (λ f. f ≡ tree.Or (formula_in view.now names.old left.now) (formula_in view.now names.old right.now)) }
+    ensures kept { OnOk result (names.new ≡ names.old) }
+{
+    let (f, g) = both_formulas(alloc, view, names, left, right)?;
+    Formula::or(alloc, f, g)
+}
+
+// `=>`
+#[cycle(normal)]
+fn normal_implies(
+    alloc: Global,
+    view: &View,
+    names: &mut Table<Entry>,
+    left: &RawFormula,
+    right: &RawFormula,
+) -> Result<Formula, Memory>
+    ensures tree { IfOk result (λ f. f ≡ tree.Implies (formula_in view.now names.old left.now) (formula_in view.now names.old right.now)) }
+    ensures kept { OnOk result (names.new ≡ names.old) }
+{
+    let (f, g) = both_formulas(alloc, view, names, left, right)?;
+    Formula::implies(alloc, f, g)
+}
+
+// `<=>`
+#[cycle(normal)]
+fn normal_iff(
+    alloc: Global,
+    view: &View,
+    names: &mut Table<Entry>,
+    left: &RawFormula,
+    right: &RawFormula,
+) -> Result<Formula, Memory>
+    ensures tree { IfOk result (λ f. f ≡ tree.Iff (formula_in view.now names.old left.now) (formula_in view.now names.old right.now)) }
+    ensures kept { OnOk result (names.new ≡ names.old) }
+{
+    let (f, g) = both_formulas(alloc, view, names, left, right)?;
+    Formula::iff(alloc, f, g)
+}
+
+// Two terms with a relation between them.
+#[cycle(normal)]
+fn normal_relation(
+    alloc: Global,
+    view: &View,
+    names: &mut Table<Entry>,
+    relation: RawRelation,
+    left: &RawTerm,
+    right: &RawTerm,
+) -> Result<Formula, Memory>
+    ensures tree { IfOk result (λ f. f ≡ related relation (term_in view.now names.old left.now) (term_in view.now names.old right.now)) }
+    ensures kept { OnOk result (names.new ≡ names.old) }
+{
+    let (a, b) = both_terms(alloc, view, names, left, right)?;
+    relation_of(alloc, relation, a, b)
+}
+
+// `!name.(domain => body)`
+#[cycle(normal)]
+fn normal_every(
+    alloc: Global,
+    view: &View,
+    names: &mut Table<Entry>,
+    name: &RawName,
+    domain: &RawFormula,
+    body: &RawFormula,
+) -> Result<Formula, Memory>
+    ensures tree { IfOk result (λ f. f ≡ formula_in view.now names.old (raw.Every name.now domain.now body.now)) }
+    ensures kept { OnOk result (names.new ≡ names.old) }
+{
+    let choice = typing(names, view, name.text.as_slice(), domain);
+    let inside = implies_under(alloc, view, names, name, &choice, domain, body)?;
+    every(alloc, name, kind(&domain_or_zero(&choice)), inside)
+}
+
+// `domain => body`, where the name is bound.
+#[cycle(normal)]
+fn implies_under(
+    alloc: Global,
+    view: &View,
+    names: &mut Table<Entry>,
+    name: &RawName,
+    choice: &Option<Choice>,
+    domain: &RawFormula,
+    body: &RawFormula,
+) -> Result<Formula, Memory>
+    ensures tree { IfOk result (λ f. f ≡ tree.Implies (formula_in view.now (under name.now choice.now names.old) domain.now) (formula_in view.now (under name.now choice.now names.old) body.now)) }
+    ensures kept { OnOk result (names.new ≡ names.old) }
+{
+    let outside = names.len();
+    enter(alloc, names, name, choice)?;
+    let inside = normal_implies(alloc, view, names, domain, body)?;
+    names.leave(outside);
+    Ok(inside)
+}
+
+// `#name.(body)`
+#[cycle(normal)]
+fn normal_exists(
+    alloc: Global,
+    view: &View,
+    names: &mut Table<Entry>,
+    name: &RawName,
+    body: &RawFormula,
+) -> Result<Formula, Memory>
+    ensures tree { IfOk result (λ f. f ≡ formula_in view.now names.old (raw.Exists name.now body.now)) }
+    ensures kept { OnOk result (names.new ≡ names.old) }
+{
+    let choice = typing(names, view, name.text.as_slice(), body);
+    let inside = formula_under(alloc, view, names, name, &choice, body)?;
+    exist(alloc, name, kind(&domain_or_zero(&choice)), inside)
+}
+
+// The formula, where the name is bound.
+#[cycle(normal)]
+fn formula_under(
+    alloc: Global,
+    view: &View,
+    names: &mut Table<Entry>,
+    name: &RawName,
+    choice: &Option<Choice>,
+    body: &RawFormula,
+) -> Result<Formula, Memory>
+    ensures tree { IfOk result (λ f. f ≡ formula_in view.now (under name.now choice.now names.old) body.now) }
+    ensures kept { OnOk result (names.new ≡ names.old) }
+{
+    let outside = names.len();
+    enter(alloc, names, name, choice)?;
+    let inside = normal_formula(alloc, view, names, body)?;
+    names.leave(outside);
+    Ok(inside)
 }
