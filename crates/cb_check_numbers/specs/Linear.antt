@@ -83,27 +83,23 @@ named sizes q (suc n) = said_by sizes q.names (hypothesis q.hypotheses (suc n))
 
 -- ---- rows
 
--- the terms whose forms make up the form of a difference
-abbrev pub terms_of : Difference → List TermTree
-terms_of d = d.greater ∷ d.smaller ∷ Num (pos 1) ∷ []
-
 -- how often 1 is taken
 abbrev pub ones : Bool → ℤ
 ones strict = if strict then negsuc 0 else pos 0
 
--- how often each of the terms is taken
-abbrev pub times_of : Difference → List ℤ
-times_of d = pos 1 ∷ negsuc 0 ∷ ones d.strict ∷ []
+-- the first less the second, and less 1 where it is strict
+abbrev pub form_between : Form → Form → Bool → Form
+form_between f g strict = summed zero_form (f ∷ g ∷ form_of_term (Num (pos 1)) ∷ []) (pos 1 ∷ negsuc 0 ∷ ones strict ∷ [])
 
 -- `greater - smaller`, or `greater - smaller - 1`
 abbrev pub form_of_difference : Difference → Form
-form_of_difference d = summed zero_form (map form_of_term (terms_of d)) (times_of d)
+form_of_difference d = form_between (form_of_term d.greater) (form_of_term d.smaller) d.strict
 
--- no number on the way to that passes 2^100 in size: not in the form of a term in its sides whose form is taken, and not in a sum
+-- no number in the form of a term in its sides whose form is taken passes 2^100 in size
 abbrev pub is_small_difference : Difference → Bool
-is_small_difference d = small_all d.greater && (small_all d.smaller && small_sums zero_form (map form_of_term (terms_of d)) (times_of d))
+is_small_difference d = small_all d.greater && small_all d.smaller
 
--- the row of the difference
+-- the row of a difference whose sides are small. Its own numbers may be of any size
 abbrev pub small_row : Difference → Option Form
 small_row d = if is_small_difference d then Some (form_of_difference d) else None
 
@@ -138,7 +134,8 @@ is_below_zero (p ∷ ps) n = false
 abbrev pub cannot_be : Form → Bool
 cannot_be f = is_below_zero f.parts f.constant
 
--- the rows times the multipliers add up to what cannot be, and no number on the way passes 2^100 in size
+-- the rows times the multipliers add up to what cannot be, and no number passes 2^100 in size in a row times its multiplier, nor in
+-- a sum so far
 abbrev pub refuted_by : Option (List Form) → List ℤ → Bool
 refuted_by None ks = false
 refuted_by (Some fs) ks = small_sums zero_form fs ks && cannot_be (summed zero_form fs ks)

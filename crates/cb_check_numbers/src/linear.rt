@@ -7,6 +7,7 @@ ghost use Rattle.cb_term.specs.Tree.{Num};
 ghost use Rattle.cb_lin.specs.Form.{form_of_term};
 ghost use Rattle.cb_lin.specs.Rows.{form_of, opt_form};
 ghost use Rattle.cb_seq.specs.Premises.{claim_at};
+ghost use Rattle.cb_check_numbers.specs.Counted.{checked, counted, multiple_counted};
 ghost use Rattle.cb_check_numbers.specs.Linear as spec;
 
 use cb_lin::linear::{combine, linear};
@@ -170,16 +171,46 @@ fn one(alloc: Global) -> Result<Row, Memory>
     }
 }
 
-// How often the sides and the number 1 are taken.
-fn times(strict: bool) -> [i64; 3]
+// How often the number 1 and then the sides are taken.
+fn times_one_first(strict: bool) -> [i64; 3]
+    ensures { result ≡ spec.ones strict ∷ pos 1 ∷ negsuc 0 ∷ [] }
+{
+    if strict { [-1, 1, -1] } else { [0, 1, -1] }
+}
+
+// How often the sides and then the number 1 are taken.
+fn times_one_last(strict: bool) -> [i64; 3]
     ensures { result ≡ pos 1 ∷ negsuc 0 ∷ spec.ones strict ∷ [] }
 {
     if strict { [1, -1, -1] } else { [1, -1, 0] }
 }
 
-// The linear form, unless a number on the way to it passes 2^100 in size.
-fn small_row(alloc: Global, difference: &DifferenceRef) -> Result<Option<Row>, Memory>
-    ensures { IfOk result (λ o. opt_form o ≡ spec.small_row (spec.difference_at difference.now)) }
+// The row from those of the sides, unless a number in it passes 2^100 in size. The 1 is taken off the greater side where that's
+// above 0, and else off the difference, so that no sum on the way passes 2^100 where the row doesn't.
+fn difference_row(
+    alloc: Global,
+    greater: Row,
+    smaller: Row,
+    strict: bool,
+) -> Result<Option<Row>, Memory>
+    ensures { IfOk result (λ o. opt_form o ≡ checked (spec.form_between (form_of greater) (form_of smaller) strict)) }
+{
+    let one = one(alloc)?;
+    if 0 < greater.constant {
+        let rows = [one, greater, smaller];
+        let first = combine(alloc, &rows, &times_one_first(strict))?;
+        Ok(first)
+    } else {
+        let rows = [greater, smaller, one];
+        let last = combine(alloc, &rows, &times_one_last(strict))?;
+        Ok(last)
+    }
+}
+
+// What stands for the row that is taken so often: the number 0 at 0 times, however large the numbers of the row, and else the row,
+// unless a number in it passes 2^100 in size.
+fn small_row(alloc: Global, times: i64, difference: &DifferenceRef) -> Result<Option<Row>, Memory>
+    ensures { IfOk result (λ o. opt_form o ≡ counted times (spec.small_row (spec.difference_at difference.now))) }
 {
     let Some(greater) = linear(alloc, difference.greater)? else {
         return Ok(None);
@@ -187,23 +218,25 @@ fn small_row(alloc: Global, difference: &DifferenceRef) -> Result<Option<Row>, M
     let Some(smaller) = linear(alloc, difference.smaller)? else {
         return Ok(None);
     };
-    let rows = [greater, smaller, one(alloc)?];
-    let row = combine(alloc, &rows, &times(difference.strict))?;
-    Ok(row)
+    if times == 0 {
+        linear(alloc, &Term::num(0))
+    } else {
+        difference_row(alloc, greater, smaller, difference.strict)
+    }
 }
 
-// The row, where it may be taken so often.
+// The same, where it may be taken so often.
 fn row_taken(
     alloc: Global,
     times: i64,
     difference: Option<DifferenceRef>,
 ) -> Result<Option<Row>, Memory>
-    ensures { IfOk result (λ o. opt_form o ≡ spec.row_taken times (spec.opt_difference difference.entry)) }
+    ensures { IfOk result (λ o. opt_form o ≡ counted times (spec.row_taken times (spec.opt_difference difference.entry))) }
 {
     match difference {
         Some(difference) => {
             if difference.is_zero || 0 <= times {
-                small_row(alloc, &difference)
+                small_row(alloc, times, &difference)
             } else {
                 Ok(None)
             }
@@ -212,20 +245,33 @@ fn row_taken(
     }
 }
 
-// The rows in order, where there is each.
+// What stands for the row that the number names.
+fn multiple_taken(
+    alloc: Global,
+    sets: &SetTable,
+    sequent: &SequentRef,
+    multiple: &Multiple,
+) -> Result<Option<Row>, Memory>
+    ensures { IfOk result (λ o. opt_form o ≡ multiple_counted (sizes_of sets.now) (claim_at sequent.now) multiple.now) }
+{
+    let difference = named(alloc, sets, sequent, multiple.row)?;
+    row_taken(alloc, multiple.by, difference)
+}
+
+// What stands for the rows in order. It refutes exactly where they do.
 fn rows_taken(
     alloc: Global,
     sets: &SetTable,
     sequent: &SequentRef,
     multiples: &[Multiple],
 ) -> Result<Option<Vec<Row>>, Memory>
-    ensures rows { IfOk result (λ o. option_map (λ v. map form_of v.items) o ≡ spec.rows_taken (sizes_of sets.now) (claim_at sequent.now) multiples.now) }
+    ensures same { let times = spec.multipliers multiples.now in
+        IfOk result (λ o. spec.refuted_by (option_map (λ v. map form_of v.items) o) times ≡ spec.refuted_by (spec.rows_taken (sizes_of sets.now) (claim_at sequent.now) multiples.now) times) }
     ensures all { IfOk result (λ o. IfSome o (λ v. length v.items ≡ length multiples.now)) }
 {
     let mut rows = Vec::new(alloc);
     for multiple in multiples {
-        let difference = named(alloc, sets, sequent, multiple.row)?;
-        let Some(row) = row_taken(alloc, multiple.by, difference)? else {
+        let Some(row) = multiple_taken(alloc, sets, sequent, multiple)? else {
             return Ok(None);
         };
         rows.push(row)?;
