@@ -1,9 +1,10 @@
 //! The actions that build formulas.
 
-ghost use Rattle.std.specs.Prelude.{◌≡◌, ◌++◌, ◌∷◌, [], IfOk};
-ghost use Rattle.cb_lex.specs.RawTermTree as tree;
+ghost use Rattle.std.specs.Prelude.{◌≡◌, ◌++◌, ◌∷◌, [], IfOk, List, ℕ};
+ghost use Rattle.cb_grammar.specs.Signatures.{formula_kind};
 ghost use Rattle.cb_amn_parse.specs.Lexemes.{Did};
-ghost use Rattle.cb_amn_parse.specs.Values.{stack_out, Takes, Turns};
+ghost use Rattle.cb_amn_parse.specs.Formulas.{formula_out};
+ghost use Rattle.cb_amn_parse.specs.Values.{stack_out, kinds_of, Takes, Turns};
 
 use crate::Memory;
 use crate::value::{Value, pop_formula, pop_name, pop_relation, pop_term, push};
@@ -11,7 +12,6 @@ use cb_grammar::actions::{
     ALWAYS_FALSE, ALWAYS_TRUE, AND, EQUIVALENT, EXISTS, FOR_ALL, IMPLIES, NO_CONDITION, NOT, OR,
     RELATION, SOME_CONDITION,
 };
-use cb_lex::raw::name::RawName;
 use cb_lex::raw::term::{RawFormula, RawFormulaNode};
 use std::alloc::Global;
 
@@ -38,17 +38,23 @@ pub(crate) fn not(alloc: Global, stack: &mut Vec<Value>) -> Result<(), Memory>
     ensures out { IfOk result (λ _. stack_out stack.new.items ≡ stack_out stack.old.items ++ Did NOT ∷ []) }
     ensures turns { IfOk result (λ _. Turns stack.old.items stack.new.items NOT) }
 {
-    let inner = pop_formula(stack);
-    let node = RawFormulaNode::Not(Box::new(alloc, inner)?);
+    let inner = Box::new(alloc, pop_formula(stack))?;
+    let node = RawFormulaNode::Not(inner);
     push(stack, Value::Formula(RawFormula { node }))
 }
 
-// `left` and `right` joined
-fn and_of(alloc: Global, left: RawFormula, right: RawFormula) -> Result<RawFormula, Memory>
-    ensures { IfOk result (λ f. f ≡ tree.And left right) }
+// the two formulas on top
+fn pop_pair(
+    alloc: Global,
+    stack: &mut Vec<Value>,
+) -> Result<(Box<RawFormula>, Box<RawFormula>), Memory>
+    requires top { (r : List ℕ) × (kinds_of stack.old.items ≡ formula_kind ∷ formula_kind ∷ r) }
+    ensures out { IfOk result (λ pair. stack_out stack.old.items ≡ stack_out stack.new.items ++ formula_out pair.0.value ++ formula_out pair.1.value) }
+    ensures below { IfOk result (λ _. kinds_of stack.old.items ≡ formula_kind ∷ formula_kind ∷ kinds_of stack.new.items) }
 {
-    let node = RawFormulaNode::And(Box::new(alloc, left)?, Box::new(alloc, right)?);
-    Ok(RawFormula { node })
+    let right = Box::new(alloc, pop_formula(stack))?;
+    let left = Box::new(alloc, pop_formula(stack))?;
+    Ok((left, right))
 }
 
 pub(crate) fn and(alloc: Global, stack: &mut Vec<Value>) -> Result<(), Memory>
@@ -56,17 +62,9 @@ pub(crate) fn and(alloc: Global, stack: &mut Vec<Value>) -> Result<(), Memory>
     ensures out { IfOk result (λ _. stack_out stack.new.items ≡ stack_out stack.old.items ++ Did AND ∷ []) }
     ensures turns { IfOk result (λ _. Turns stack.old.items stack.new.items AND) }
 {
-    let right = pop_formula(stack);
-    let left = pop_formula(stack);
-    push(stack, Value::Formula(and_of(alloc, left, right)?))
-}
-
-// `left` and `right` joined
-fn or_of(alloc: Global, left: RawFormula, right: RawFormula) -> Result<RawFormula, Memory>
-    ensures { IfOk result (λ f. f ≡ tree.Or left right) }
-{
-    let node = RawFormulaNode::Or(Box::new(alloc, left)?, Box::new(alloc, right)?);
-    Ok(RawFormula { node })
+    let (left, right) = pop_pair(alloc, stack)?;
+    let node = RawFormulaNode::And(left, right);
+    push(stack, Value::Formula(RawFormula { node }))
 }
 
 pub(crate) fn or(alloc: Global, stack: &mut Vec<Value>) -> Result<(), Memory>
@@ -74,17 +72,9 @@ pub(crate) fn or(alloc: Global, stack: &mut Vec<Value>) -> Result<(), Memory>
     ensures out { IfOk result (λ _. stack_out stack.new.items ≡ stack_out stack.old.items ++ Did OR ∷ []) }
     ensures turns { IfOk result (λ _. Turns stack.old.items stack.new.items OR) }
 {
-    let right = pop_formula(stack);
-    let left = pop_formula(stack);
-    push(stack, Value::Formula(or_of(alloc, left, right)?))
-}
-
-// `left` and `right` joined
-fn implies_of(alloc: Global, left: RawFormula, right: RawFormula) -> Result<RawFormula, Memory>
-    ensures { IfOk result (λ f. f ≡ tree.Implies left right) }
-{
-    let node = RawFormulaNode::Implies(Box::new(alloc, left)?, Box::new(alloc, right)?);
-    Ok(RawFormula { node })
+    let (left, right) = pop_pair(alloc, stack)?;
+    let node = RawFormulaNode::Or(left, right);
+    push(stack, Value::Formula(RawFormula { node }))
 }
 
 pub(crate) fn implies(alloc: Global, stack: &mut Vec<Value>) -> Result<(), Memory>
@@ -92,17 +82,9 @@ pub(crate) fn implies(alloc: Global, stack: &mut Vec<Value>) -> Result<(), Memor
     ensures out { IfOk result (λ _. stack_out stack.new.items ≡ stack_out stack.old.items ++ Did IMPLIES ∷ []) }
     ensures turns { IfOk result (λ _. Turns stack.old.items stack.new.items IMPLIES) }
 {
-    let right = pop_formula(stack);
-    let left = pop_formula(stack);
-    push(stack, Value::Formula(implies_of(alloc, left, right)?))
-}
-
-// `left` and `right` joined
-fn equivalent_of(alloc: Global, left: RawFormula, right: RawFormula) -> Result<RawFormula, Memory>
-    ensures { IfOk result (λ f. f ≡ tree.Equivalent left right) }
-{
-    let node = RawFormulaNode::Equivalent(Box::new(alloc, left)?, Box::new(alloc, right)?);
-    Ok(RawFormula { node })
+    let (left, right) = pop_pair(alloc, stack)?;
+    let node = RawFormulaNode::Implies(left, right);
+    push(stack, Value::Formula(RawFormula { node }))
 }
 
 pub(crate) fn equivalent(alloc: Global, stack: &mut Vec<Value>) -> Result<(), Memory>
@@ -110,26 +92,9 @@ pub(crate) fn equivalent(alloc: Global, stack: &mut Vec<Value>) -> Result<(), Me
     ensures out { IfOk result (λ _. stack_out stack.new.items ≡ stack_out stack.old.items ++ Did EQUIVALENT ∷ []) }
     ensures turns { IfOk result (λ _. Turns stack.old.items stack.new.items EQUIVALENT) }
 {
-    let right = pop_formula(stack);
-    let left = pop_formula(stack);
-    push(stack, Value::Formula(equivalent_of(alloc, left, right)?))
-}
-
-// `!name.(domain => body)`
-fn every(
-    alloc: Global,
-    name: RawName,
-    domain: RawFormula,
-    body: RawFormula,
-) -> Result<RawFormula, Memory>
-    ensures { IfOk result (λ f. f ≡ tree.Every name domain body) }
-{
-    let node = RawFormulaNode::Every {
-        name,
-        domain: Box::new(alloc, domain)?,
-        body: Box::new(alloc, body)?,
-    };
-    Ok(RawFormula { node })
+    let (left, right) = pop_pair(alloc, stack)?;
+    let node = RawFormulaNode::Equivalent(left, right);
+    push(stack, Value::Formula(RawFormula { node }))
 }
 
 pub(crate) fn for_all(alloc: Global, stack: &mut Vec<Value>) -> Result<(), Memory>
@@ -137,21 +102,10 @@ pub(crate) fn for_all(alloc: Global, stack: &mut Vec<Value>) -> Result<(), Memor
     ensures out { IfOk result (λ _. stack_out stack.new.items ≡ stack_out stack.old.items ++ Did FOR_ALL ∷ []) }
     ensures turns { IfOk result (λ _. Turns stack.old.items stack.new.items FOR_ALL) }
 {
-    let body = pop_formula(stack);
-    let domain = pop_formula(stack);
+    let (domain, body) = pop_pair(alloc, stack)?;
     let name = pop_name(stack);
-    push(stack, Value::Formula(every(alloc, name, domain, body)?))
-}
-
-// `#name.(body)`
-fn some(alloc: Global, name: RawName, body: RawFormula) -> Result<RawFormula, Memory>
-    ensures { IfOk result (λ f. f ≡ tree.Exists name body) }
-{
-    let node = RawFormulaNode::Exists {
-        name,
-        body: Box::new(alloc, body)?,
-    };
-    Ok(RawFormula { node })
+    let node = RawFormulaNode::Every { name, domain, body };
+    push(stack, Value::Formula(RawFormula { node }))
 }
 
 pub(crate) fn exists(alloc: Global, stack: &mut Vec<Value>) -> Result<(), Memory>
@@ -159,9 +113,10 @@ pub(crate) fn exists(alloc: Global, stack: &mut Vec<Value>) -> Result<(), Memory
     ensures out { IfOk result (λ _. stack_out stack.new.items ≡ stack_out stack.old.items ++ Did EXISTS ∷ []) }
     ensures turns { IfOk result (λ _. Turns stack.old.items stack.new.items EXISTS) }
 {
-    let body = pop_formula(stack);
+    let body = Box::new(alloc, pop_formula(stack))?;
     let name = pop_name(stack);
-    push(stack, Value::Formula(some(alloc, name, body)?))
+    let node = RawFormulaNode::Exists { name, body };
+    push(stack, Value::Formula(RawFormula { node }))
 }
 
 pub(crate) fn relation(stack: &mut Vec<Value>) -> Result<(), Memory>

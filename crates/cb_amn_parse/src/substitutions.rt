@@ -1,9 +1,10 @@
 //! The actions that build substitutions and domains.
 
-ghost use Rattle.std.specs.Prelude.{◌≡◌, ◌++◌, ◌∷◌, [], IfOk};
-ghost use Rattle.cb_lex.specs.RawSubstTree as tree;
+ghost use Rattle.std.specs.Prelude.{◌≡◌, ◌++◌, ◌∷◌, [], IfOk, List, ℕ};
+ghost use Rattle.cb_grammar.specs.Signatures.{substitution_kind};
 ghost use Rattle.cb_amn_parse.specs.Lexemes.{Did};
-ghost use Rattle.cb_amn_parse.specs.Values.{stack_out, Takes, Turns};
+ghost use Rattle.cb_amn_parse.specs.Machines.{subst_out};
+ghost use Rattle.cb_amn_parse.specs.Values.{stack_out, kinds_of, Takes, Turns};
 
 use crate::Memory;
 use crate::value::{
@@ -15,18 +16,19 @@ use cb_grammar::actions::{
     NAME_END, NAMED_DOMAIN, NO_SIDES, NUMBER_END, PARALLEL, RANGE, SET_DOMAIN, SKIP,
 };
 use cb_lex::raw::domain::{RawBound, RawDomain, RawEnd};
-use cb_lex::raw::name::RawName;
 use cb_lex::raw::subst::{RawSubst, RawSubstNode, RawSubsts};
-use cb_lex::raw::term::RawFormula;
 use sqlite_items::Items;
 use std::alloc::Global;
 
-// `left || right`
-fn parallel_of(alloc: Global, left: RawSubst, right: RawSubst) -> Result<RawSubst, Memory>
-    ensures { IfOk result (λ s. s ≡ tree.Parallel left right) }
+// the two substitutions on top
+fn pop_pair(alloc: Global, stack: &mut Vec<Value>) -> Result<(Box<RawSubst>, Box<RawSubst>), Memory>
+    requires top { (r : List ℕ) × (kinds_of stack.old.items ≡ substitution_kind ∷ substitution_kind ∷ r) }
+    ensures out { IfOk result (λ pair. stack_out stack.old.items ≡ stack_out stack.new.items ++ subst_out pair.0.value ++ subst_out pair.1.value) }
+    ensures below { IfOk result (λ _. kinds_of stack.old.items ≡ substitution_kind ∷ substitution_kind ∷ kinds_of stack.new.items) }
 {
-    let node = RawSubstNode::Parallel(Box::new(alloc, left)?, Box::new(alloc, right)?);
-    Ok(RawSubst { node })
+    let right = Box::new(alloc, pop_subst(stack))?;
+    let left = Box::new(alloc, pop_subst(stack))?;
+    Ok((left, right))
 }
 
 pub(crate) fn parallel(alloc: Global, stack: &mut Vec<Value>) -> Result<(), Memory>
@@ -34,9 +36,9 @@ pub(crate) fn parallel(alloc: Global, stack: &mut Vec<Value>) -> Result<(), Memo
     ensures out { IfOk result (λ _. stack_out stack.new.items ≡ stack_out stack.old.items ++ Did PARALLEL ∷ []) }
     ensures turns { IfOk result (λ _. Turns stack.old.items stack.new.items PARALLEL) }
 {
-    let right = pop_subst(stack);
-    let left = pop_subst(stack);
-    push(stack, Value::Subst(parallel_of(alloc, left, right)?))
+    let (left, right) = pop_pair(alloc, stack)?;
+    let node = RawSubstNode::Parallel(left, right);
+    push(stack, Value::Subst(RawSubst { node }))
 }
 
 pub(crate) fn skip(stack: &mut Vec<Value>) -> Result<(), Memory>
@@ -70,33 +72,19 @@ pub(crate) fn among(stack: &mut Vec<Value>) -> Result<(), Memory>
     push(stack, Value::Subst(RawSubst { node }))
 }
 
-// an IF or ELSIF with what follows
-fn if_else(
-    alloc: Global,
-    condition: RawFormula,
-    then: RawSubst,
-    otherwise: RawSubst,
-) -> Result<RawSubst, Memory>
-    ensures { IfOk result (λ s. s ≡ tree.IfElse condition then otherwise) }
-{
-    let node = RawSubstNode::IfElse {
-        condition,
-        then: Box::new(alloc, then)?,
-        otherwise: Box::new(alloc, otherwise)?,
-    };
-    Ok(RawSubst { node })
-}
-
 pub(crate) fn if_with_else(alloc: Global, stack: &mut Vec<Value>) -> Result<(), Memory>
     requires { Takes stack.old.items IF }
     ensures out { IfOk result (λ _. stack_out stack.new.items ≡ stack_out stack.old.items ++ Did IF ∷ []) }
     ensures turns { IfOk result (λ _. Turns stack.old.items stack.new.items IF) }
 {
-    let otherwise = pop_subst(stack);
-    let then = pop_subst(stack);
+    let (then, otherwise) = pop_pair(alloc, stack)?;
     let condition = pop_formula(stack);
-    let subst = if_else(alloc, condition, then, otherwise)?;
-    push(stack, Value::Subst(subst))
+    let node = RawSubstNode::IfElse {
+        condition,
+        then,
+        otherwise,
+    };
+    push(stack, Value::Subst(RawSubst { node }))
 }
 
 pub(crate) fn if_without_else(alloc: Global, stack: &mut Vec<Value>) -> Result<(), Memory>
@@ -104,12 +92,9 @@ pub(crate) fn if_without_else(alloc: Global, stack: &mut Vec<Value>) -> Result<(
     ensures out { IfOk result (λ _. stack_out stack.new.items ≡ stack_out stack.old.items ++ Did IF_WITHOUT_ELSE ∷ []) }
     ensures turns { IfOk result (λ _. Turns stack.old.items stack.new.items IF_WITHOUT_ELSE) }
 {
-    let then = pop_subst(stack);
+    let then = Box::new(alloc, pop_subst(stack))?;
     let condition = pop_formula(stack);
-    let node = RawSubstNode::If {
-        condition,
-        then: Box::new(alloc, then)?,
-    };
+    let node = RawSubstNode::If { condition, then };
     push(stack, Value::Subst(RawSubst { node }))
 }
 
@@ -150,32 +135,20 @@ pub(crate) fn choice(stack: &mut Vec<Value>) -> Result<(), Memory>
     push(stack, Value::Subst(RawSubst { node }))
 }
 
-// `ANY name WHERE condition THEN body END`
-fn any_of(
-    alloc: Global,
-    name: RawName,
-    condition: RawFormula,
-    body: RawSubst,
-) -> Result<RawSubst, Memory>
-    ensures { IfOk result (λ s. s ≡ tree.Any name condition body) }
-{
-    let node = RawSubstNode::Any {
-        name,
-        condition,
-        body: Box::new(alloc, body)?,
-    };
-    Ok(RawSubst { node })
-}
-
 pub(crate) fn any(alloc: Global, stack: &mut Vec<Value>) -> Result<(), Memory>
     requires { Takes stack.old.items ANY }
     ensures out { IfOk result (λ _. stack_out stack.new.items ≡ stack_out stack.old.items ++ Did ANY ∷ []) }
     ensures turns { IfOk result (λ _. Turns stack.old.items stack.new.items ANY) }
 {
-    let body = pop_subst(stack);
+    let body = Box::new(alloc, pop_subst(stack))?;
     let condition = pop_formula(stack);
     let name = pop_name(stack);
-    push(stack, Value::Subst(any_of(alloc, name, condition, body)?))
+    let node = RawSubstNode::Any {
+        name,
+        condition,
+        body,
+    };
+    push(stack, Value::Subst(RawSubst { node }))
 }
 
 pub(crate) fn named_domain(stack: &mut Vec<Value>) -> Result<(), Memory>

@@ -113,32 +113,23 @@ pub(crate) fn minus(alloc: Global, stack: &mut Vec<Value>) -> Result<(), Memory>
     ensures out { IfOk result (λ _. stack_out stack.new.items ≡ stack_out stack.old.items ++ Did MINUS ∷ []) }
     ensures turns { IfOk result (λ _. Turns stack.old.items stack.new.items MINUS) }
 {
-    let term = pop_term(stack);
+    let term = Box::new(alloc, pop_term(stack))?;
     let place = pop_minus(stack);
-    let node = RawTermNode::Minus {
-        place,
-        term: Box::new(alloc, term)?,
-    };
+    let node = RawTermNode::Minus { place, term };
     push(stack, Value::Term(RawTerm { node }))
 }
 
 // two terms joined by a sign
-fn joined(
-    alloc: Global,
-    operator: RawOperator,
-    place: Place,
-    left: RawTerm,
-    right: RawTerm,
-) -> Result<RawTerm, Memory>
-    ensures { IfOk result (λ t. t ≡ tree.Binary operator place left right) }
+fn joined(operator: RawOperator, place: Place, left: Box<RawTerm>, right: Box<RawTerm>) -> RawTerm
+    ensures { result ≡ tree.Binary operator place left.value right.value }
 {
     let node = RawTermNode::Binary {
         operator,
         place,
-        left: Box::new(alloc, left)?,
-        right: Box::new(alloc, right)?,
+        left,
+        right,
     };
-    Ok(RawTerm { node })
+    RawTerm { node }
 }
 
 pub(crate) fn binary(alloc: Global, stack: &mut Vec<Value>) -> Result<(), Memory>
@@ -146,13 +137,11 @@ pub(crate) fn binary(alloc: Global, stack: &mut Vec<Value>) -> Result<(), Memory
     ensures out { IfOk result (λ _. stack_out stack.new.items ≡ stack_out stack.old.items ++ Did BINARY ∷ []) }
     ensures turns { IfOk result (λ _. Turns stack.old.items stack.new.items BINARY) }
 {
-    let right = pop_term(stack);
+    let right = Box::new(alloc, pop_term(stack))?;
     let (operator, place) = pop_operator(stack);
-    let left = pop_term(stack);
-    push(
-        stack,
-        Value::Term(joined(alloc, operator, place, left, right)?),
-    )
+    let left = Box::new(alloc, pop_term(stack))?;
+    let term = joined(operator, place, left, right);
+    push(stack, Value::Term(term))
 }
 
 pub(crate) fn subtract(alloc: Global, stack: &mut Vec<Value>) -> Result<(), Memory>
@@ -160,10 +149,10 @@ pub(crate) fn subtract(alloc: Global, stack: &mut Vec<Value>) -> Result<(), Memo
     ensures out { IfOk result (λ _. stack_out stack.new.items ≡ stack_out stack.old.items ++ Did SUBTRACT ∷ []) }
     ensures turns { IfOk result (λ _. Turns stack.old.items stack.new.items SUBTRACT) }
 {
-    let right = pop_term(stack);
+    let right = Box::new(alloc, pop_term(stack))?;
     let place = pop_minus(stack);
-    let left = pop_term(stack);
-    let term = joined(alloc, RawOperator::Minus, place, left, right)?;
+    let left = Box::new(alloc, pop_term(stack))?;
+    let term = joined(RawOperator::Minus, place, left, right);
     push(stack, Value::Term(term))
 }
 
@@ -172,12 +161,9 @@ pub(crate) fn card(alloc: Global, stack: &mut Vec<Value>) -> Result<(), Memory>
     ensures out { IfOk result (λ _. stack_out stack.new.items ≡ stack_out stack.old.items ++ Did CARD ∷ []) }
     ensures turns { IfOk result (λ _. Turns stack.old.items stack.new.items CARD) }
 {
-    let term = pop_term(stack);
+    let term = Box::new(alloc, pop_term(stack))?;
     let place = pop_card(stack);
-    let node = RawTermNode::Card {
-        place,
-        term: Box::new(alloc, term)?,
-    };
+    let node = RawTermNode::Card { place, term };
     push(stack, Value::Term(RawTerm { node }))
 }
 
@@ -186,12 +172,9 @@ pub(crate) fn truth_of(alloc: Global, stack: &mut Vec<Value>) -> Result<(), Memo
     ensures out { IfOk result (λ _. stack_out stack.new.items ≡ stack_out stack.old.items ++ Did BOOL ∷ []) }
     ensures turns { IfOk result (λ _. Turns stack.old.items stack.new.items BOOL) }
 {
-    let formula = pop_formula(stack);
+    let formula = Box::new(alloc, pop_formula(stack))?;
     let place = pop_bool(stack);
-    let node = RawTermNode::TruthOf {
-        place,
-        formula: Box::new(alloc, formula)?,
-    };
+    let node = RawTermNode::TruthOf { place, formula };
     push(stack, Value::Term(RawTerm { node }))
 }
 

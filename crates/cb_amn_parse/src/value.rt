@@ -1,6 +1,6 @@
 //! The values from which raw syntax is built, on a stack.
 
-ghost use Rattle.std.specs.Prelude.{◌≡◌, ◌++◌, ◌∷◌, [], IfOk};
+ghost use Rattle.std.specs.Prelude.{◌≡◌, ◌++◌, ◌∷◌, [], IfOk, ℕ};
 ghost use Rattle.cb_lex.specs.declared.token.Sort.TheVariants as sort;
 ghost use Rattle.cb_lex.specs.declared.token.Sign.TheVariants as sign;
 ghost use Rattle.cb_lex.specs.declared.token.Keyword.TheVariants as keyword;
@@ -121,14 +121,26 @@ pub fn push(stack: &mut Vec<Value>, value: Value) -> Result<(), Memory>
     Ok(())
 }
 
+// the top
+fn pop(stack: &mut Vec<Value>) -> Value
+    requires { (kind : ℕ) × HasTop stack.old.items kind }
+    ensures out { stack_out stack.old.items ≡ stack_out stack.new.items ++ value_out result }
+    ensures below { kinds_of stack.old.items ≡ kind_of result ∷ kinds_of stack.new.items }
+{
+    match stack.pop() {
+        Some(value) => value,
+        None => unreachable!(),
+    }
+}
+
 /// Takes a name from the top.
 pub fn pop_name(stack: &mut Vec<Value>) -> RawName
     requires { HasTop stack.old.items name_kind }
     ensures out { stack_out stack.old.items ≡ stack_out stack.new.items ++ Named result ∷ [] }
     ensures below { kinds_of stack.old.items ≡ name_kind ∷ kinds_of stack.new.items }
 {
-    match stack.pop() {
-        Some(Value::Name(name)) => name,
+    match pop(stack) {
+        Value::Name(name) => name,
         _ => unreachable!(),
     }
 }
@@ -139,8 +151,8 @@ pub fn pop_limit(stack: &mut Vec<Value>) -> (Limit, Place)
     ensures out { stack_out stack.old.items ≡ stack_out stack.new.items ++ Said (sort.Keyword (limit_keyword result.0)) result.1 ∷ [] }
     ensures below { kinds_of stack.old.items ≡ limit_kind ∷ kinds_of stack.new.items }
 {
-    match stack.pop() {
-        Some(Value::Limit(limit, place)) => (limit, place),
+    match pop(stack) {
+        Value::Limit(limit, place) => (limit, place),
         _ => unreachable!(),
     }
 }
@@ -151,8 +163,8 @@ pub fn pop_number(stack: &mut Vec<Value>) -> (i64, Place)
     ensures out { stack_out stack.old.items ≡ stack_out stack.new.items ++ Said (sort.Number result.0) result.1 ∷ [] }
     ensures below { kinds_of stack.old.items ≡ number_kind ∷ kinds_of stack.new.items }
 {
-    match stack.pop() {
-        Some(Value::Number(number, place)) => (number, place),
+    match pop(stack) {
+        Value::Number(number, place) => (number, place),
         _ => unreachable!(),
     }
 }
@@ -163,8 +175,8 @@ pub fn pop_truth(stack: &mut Vec<Value>) -> (bool, Place)
     ensures out { stack_out stack.old.items ≡ stack_out stack.new.items ++ Said (sort.Keyword (truth_keyword result.0)) result.1 ∷ [] }
     ensures below { kinds_of stack.old.items ≡ truth_kind ∷ kinds_of stack.new.items }
 {
-    match stack.pop() {
-        Some(Value::Truth(truth, place)) => (truth, place),
+    match pop(stack) {
+        Value::Truth(truth, place) => (truth, place),
         _ => unreachable!(),
     }
 }
@@ -175,8 +187,8 @@ pub fn pop_set_word(stack: &mut Vec<Value>) -> (SetWord, Place)
     ensures out { stack_out stack.old.items ≡ stack_out stack.new.items ++ Said (sort.Keyword (set_keyword result.0)) result.1 ∷ [] }
     ensures below { kinds_of stack.old.items ≡ set_kind ∷ kinds_of stack.new.items }
 {
-    match stack.pop() {
-        Some(Value::SetWord(set, place)) => (set, place),
+    match pop(stack) {
+        Value::SetWord(set, place) => (set, place),
         _ => unreachable!(),
     }
 }
@@ -187,8 +199,8 @@ pub fn pop_relation(stack: &mut Vec<Value>) -> (RawRelation, Place)
     ensures out { stack_out stack.old.items ≡ stack_out stack.new.items ++ Said (relation_sort result.0) result.1 ∷ [] }
     ensures below { kinds_of stack.old.items ≡ relation_kind ∷ kinds_of stack.new.items }
 {
-    match stack.pop() {
-        Some(Value::Relation(relation, place)) => (relation, place),
+    match pop(stack) {
+        Value::Relation(relation, place) => (relation, place),
         _ => unreachable!(),
     }
 }
@@ -200,8 +212,8 @@ pub fn pop_operator(stack: &mut Vec<Value>) -> (RawOperator, Place)
     ensures below { kinds_of stack.old.items ≡ operator_kind ∷ kinds_of stack.new.items }
     ensures binary { operator_action result.0 ≡ BINARY }
 {
-    match stack.pop() {
-        Some(Value::Operator(operator, place)) => (operator, place),
+    match pop(stack) {
+        Value::Operator(operator, place) => (operator, place),
         _ => unreachable!(),
     }
 }
@@ -212,8 +224,8 @@ pub fn pop_minus(stack: &mut Vec<Value>) -> Place
     ensures out { stack_out stack.old.items ≡ stack_out stack.new.items ++ Said (sort.Sign sign.Minus) result ∷ [] }
     ensures below { kinds_of stack.old.items ≡ minus_kind ∷ kinds_of stack.new.items }
 {
-    match stack.pop() {
-        Some(Value::Operator(RawOperator::Minus, place)) => place,
+    match pop(stack) {
+        Value::Operator(RawOperator::Minus, place) => place,
         _ => unreachable!(),
     }
 }
@@ -224,8 +236,8 @@ pub fn pop_card(stack: &mut Vec<Value>) -> Place
     ensures out { stack_out stack.old.items ≡ stack_out stack.new.items ++ Said (sort.Keyword keyword.Card) result ∷ [] }
     ensures below { kinds_of stack.old.items ≡ card_kind ∷ kinds_of stack.new.items }
 {
-    match stack.pop() {
-        Some(Value::Card(place)) => place,
+    match pop(stack) {
+        Value::Card(place) => place,
         _ => unreachable!(),
     }
 }
@@ -236,8 +248,8 @@ pub fn pop_bool(stack: &mut Vec<Value>) -> Place
     ensures out { stack_out stack.old.items ≡ stack_out stack.new.items ++ Said (sort.Keyword keyword.Bool) result ∷ [] }
     ensures below { kinds_of stack.old.items ≡ bool_kind ∷ kinds_of stack.new.items }
 {
-    match stack.pop() {
-        Some(Value::Bool(place)) => place,
+    match pop(stack) {
+        Value::Bool(place) => place,
         _ => unreachable!(),
     }
 }
@@ -248,8 +260,8 @@ pub fn pop_brace(stack: &mut Vec<Value>) -> Place
     ensures out { stack_out stack.old.items ≡ stack_out stack.new.items ++ Said (sort.Sign sign.OpenBrace) result ∷ [] }
     ensures below { kinds_of stack.old.items ≡ brace_kind ∷ kinds_of stack.new.items }
 {
-    match stack.pop() {
-        Some(Value::Brace(place)) => place,
+    match pop(stack) {
+        Value::Brace(place) => place,
         _ => unreachable!(),
     }
 }
@@ -260,8 +272,8 @@ pub fn pop_formula(stack: &mut Vec<Value>) -> RawFormula
     ensures out { stack_out stack.old.items ≡ stack_out stack.new.items ++ formula_out result }
     ensures below { kinds_of stack.old.items ≡ formula_kind ∷ kinds_of stack.new.items }
 {
-    match stack.pop() {
-        Some(Value::Formula(formula)) => formula,
+    match pop(stack) {
+        Value::Formula(formula) => formula,
         _ => unreachable!(),
     }
 }
@@ -272,8 +284,8 @@ pub fn pop_term(stack: &mut Vec<Value>) -> RawTerm
     ensures out { stack_out stack.old.items ≡ stack_out stack.new.items ++ term_out result }
     ensures below { kinds_of stack.old.items ≡ term_kind ∷ kinds_of stack.new.items }
 {
-    match stack.pop() {
-        Some(Value::Term(term)) => term,
+    match pop(stack) {
+        Value::Term(term) => term,
         _ => unreachable!(),
     }
 }
@@ -284,8 +296,8 @@ pub fn pop_terms(stack: &mut Vec<Value>) -> RawTerms
     ensures out { stack_out stack.old.items ≡ stack_out stack.new.items ++ terms_out result }
     ensures below { kinds_of stack.old.items ≡ terms_kind ∷ kinds_of stack.new.items }
 {
-    match stack.pop() {
-        Some(Value::Terms(terms)) => terms,
+    match pop(stack) {
+        Value::Terms(terms) => terms,
         _ => unreachable!(),
     }
 }
@@ -296,8 +308,8 @@ pub fn pop_names(stack: &mut Vec<Value>) -> RawNames
     ensures out { stack_out stack.old.items ≡ stack_out stack.new.items ++ names_out result }
     ensures below { kinds_of stack.old.items ≡ names_kind ∷ kinds_of stack.new.items }
 {
-    match stack.pop() {
-        Some(Value::Names(names)) => names,
+    match pop(stack) {
+        Value::Names(names) => names,
         _ => unreachable!(),
     }
 }
@@ -308,8 +320,8 @@ pub fn pop_condition(stack: &mut Vec<Value>) -> Option<RawFormula>
     ensures out { stack_out stack.old.items ≡ stack_out stack.new.items ++ condition_out result }
     ensures below { kinds_of stack.old.items ≡ condition_kind ∷ kinds_of stack.new.items }
 {
-    match stack.pop() {
-        Some(Value::Condition(condition)) => condition,
+    match pop(stack) {
+        Value::Condition(condition) => condition,
         _ => unreachable!(),
     }
 }
@@ -320,8 +332,8 @@ pub fn pop_literal(stack: &mut Vec<Value>) -> RawLiteral
     ensures out { stack_out stack.old.items ≡ stack_out stack.new.items ++ literal_out result }
     ensures below { kinds_of stack.old.items ≡ literal_kind ∷ kinds_of stack.new.items }
 {
-    match stack.pop() {
-        Some(Value::Literal(literal)) => literal,
+    match pop(stack) {
+        Value::Literal(literal) => literal,
         _ => unreachable!(),
     }
 }
@@ -332,8 +344,8 @@ pub fn pop_end(stack: &mut Vec<Value>) -> RawEnd
     ensures out { stack_out stack.old.items ≡ stack_out stack.new.items ++ end_out result }
     ensures below { kinds_of stack.old.items ≡ end_kind ∷ kinds_of stack.new.items }
 {
-    match stack.pop() {
-        Some(Value::End(end)) => end,
+    match pop(stack) {
+        Value::End(end) => end,
         _ => unreachable!(),
     }
 }
@@ -344,8 +356,8 @@ pub fn pop_bound(stack: &mut Vec<Value>) -> RawBound
     ensures out { stack_out stack.old.items ≡ stack_out stack.new.items ++ bound_out result }
     ensures below { kinds_of stack.old.items ≡ bound_kind ∷ kinds_of stack.new.items }
 {
-    match stack.pop() {
-        Some(Value::Bound(bound)) => bound,
+    match pop(stack) {
+        Value::Bound(bound) => bound,
         _ => unreachable!(),
     }
 }
@@ -356,8 +368,8 @@ pub fn pop_domain(stack: &mut Vec<Value>) -> RawDomain
     ensures out { stack_out stack.old.items ≡ stack_out stack.new.items ++ domain_out result }
     ensures below { kinds_of stack.old.items ≡ domain_kind ∷ kinds_of stack.new.items }
 {
-    match stack.pop() {
-        Some(Value::Domain(domain)) => domain,
+    match pop(stack) {
+        Value::Domain(domain) => domain,
         _ => unreachable!(),
     }
 }
@@ -368,8 +380,8 @@ pub fn pop_subst(stack: &mut Vec<Value>) -> RawSubst
     ensures out { stack_out stack.old.items ≡ stack_out stack.new.items ++ subst_out result }
     ensures below { kinds_of stack.old.items ≡ substitution_kind ∷ kinds_of stack.new.items }
 {
-    match stack.pop() {
-        Some(Value::Subst(subst)) => subst,
+    match pop(stack) {
+        Value::Subst(subst) => subst,
         _ => unreachable!(),
     }
 }
@@ -380,8 +392,8 @@ pub fn pop_sides(stack: &mut Vec<Value>) -> RawSubsts
     ensures out { stack_out stack.old.items ≡ stack_out stack.new.items ++ sides_out result }
     ensures below { kinds_of stack.old.items ≡ sides_kind ∷ kinds_of stack.new.items }
 {
-    match stack.pop() {
-        Some(Value::Sides(sides)) => sides,
+    match pop(stack) {
+        Value::Sides(sides) => sides,
         _ => unreachable!(),
     }
 }
@@ -392,8 +404,8 @@ pub fn pop_sets(stack: &mut Vec<Value>) -> Items<RawSet>
     ensures out { stack_out stack.old.items ≡ stack_out stack.new.items ++ sets_out result }
     ensures below { kinds_of stack.old.items ≡ sets_kind ∷ kinds_of stack.new.items }
 {
-    match stack.pop() {
-        Some(Value::Sets(sets)) => sets,
+    match pop(stack) {
+        Value::Sets(sets) => sets,
         _ => unreachable!(),
     }
 }
@@ -404,8 +416,8 @@ pub fn pop_properties(stack: &mut Vec<Value>) -> Items<RawProperty>
     ensures out { stack_out stack.old.items ≡ stack_out stack.new.items ++ properties_out result }
     ensures below { kinds_of stack.old.items ≡ properties_kind ∷ kinds_of stack.new.items }
 {
-    match stack.pop() {
-        Some(Value::Properties(properties)) => properties,
+    match pop(stack) {
+        Value::Properties(properties) => properties,
         _ => unreachable!(),
     }
 }
@@ -416,8 +428,8 @@ pub fn pop_state(stack: &mut Vec<Value>) -> Option<RawState>
     ensures out { stack_out stack.old.items ≡ stack_out stack.new.items ++ state_out result }
     ensures below { kinds_of stack.old.items ≡ state_kind ∷ kinds_of stack.new.items }
 {
-    match stack.pop() {
-        Some(Value::State(state)) => state,
+    match pop(stack) {
+        Value::State(state) => state,
         _ => unreachable!(),
     }
 }
@@ -428,8 +440,8 @@ pub fn pop_operations(stack: &mut Vec<Value>) -> Items<RawOperation>
     ensures out { stack_out stack.old.items ≡ stack_out stack.new.items ++ operations_out result }
     ensures below { kinds_of stack.old.items ≡ operations_kind ∷ kinds_of stack.new.items }
 {
-    match stack.pop() {
-        Some(Value::Operations(operations)) => operations,
+    match pop(stack) {
+        Value::Operations(operations) => operations,
         _ => unreachable!(),
     }
 }
@@ -440,8 +452,8 @@ pub fn pop_machine(stack: &mut Vec<Value>) -> RawMachine
     ensures out { stack_out stack.old.items ≡ stack_out stack.new.items ++ machine_out result }
     ensures below { kinds_of stack.old.items ≡ machine_kind ∷ kinds_of stack.new.items }
 {
-    match stack.pop() {
-        Some(Value::Machine(machine)) => machine,
+    match pop(stack) {
+        Value::Machine(machine) => machine,
         _ => unreachable!(),
     }
 }
