@@ -1,5 +1,5 @@
 -- The first of a text's faults.
-use Rattle.std.proofs.Common.{◌≡◌, List, Option, Some, None, subst}
+use Rattle.std.proofs.Common.{◌≡◌, List, Some, None, subst}
 use Rattle.cb_lex.specs.declared.raw.text.RawMachine.{RawMachine}
 use Rattle.cb_forms.specs.declared.fault.Fault.{Fault}
 use Rattle.cb_forms.specs.Faults.{first, Occurs, IsFirst}

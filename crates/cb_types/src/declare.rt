@@ -209,6 +209,50 @@ fn enter(
     names.enter(alloc, name.text.as_slice(), Entry { meaning, place })
 }
 
+/// Declares the names of a list, where domains play no part.
+pub fn declare_numbered(
+    alloc: Global,
+    names: &mut Table<Entry>,
+    sort: Sort,
+    numbers: &Table<i64>,
+    list: &[RawName],
+) -> Result<Option<Fault>, Memory>
+    ensures names { OnOk result (names.new ≡ declared sort numbers.now [] 0 names.old list.now) }
+    ensures fault { IfOk result (λ f. f ≡ first (declare_fault sort numbers.now [] 0 names.old list.now)) }
+{
+    let domains = Table::new(alloc);
+    declare(alloc, names, sort, numbers, &domains, list)
+}
+
+/// Declares the names of a list, where numbers play no part.
+pub fn declare_typed(
+    alloc: Global,
+    names: &mut Table<Entry>,
+    sort: Sort,
+    domains: &Table<Choice>,
+    list: &[RawName],
+) -> Result<Option<Fault>, Memory>
+    ensures names { OnOk result (names.new ≡ declared sort [] domains.now 0 names.old list.now) }
+    ensures fault { IfOk result (λ f. f ≡ first (declare_fault sort [] domains.now 0 names.old list.now)) }
+{
+    let numbers = Table::new(alloc);
+    declare(alloc, names, sort, &numbers, domains, list)
+}
+
+/// Declares the names of a list, where neither numbers nor domains play a part.
+pub fn declare_plain(
+    alloc: Global,
+    names: &mut Table<Entry>,
+    sort: Sort,
+    list: &[RawName],
+) -> Result<Option<Fault>, Memory>
+    ensures names { OnOk result (names.new ≡ declared sort [] [] 0 names.old list.now) }
+    ensures fault { IfOk result (λ f. f ≡ first (declare_fault sort [] [] 0 names.old list.now)) }
+{
+    let domains = Table::new(alloc);
+    declare_typed(alloc, names, sort, &domains, list)
+}
+
 /// Declares the names of a list, and tells the first fault.
 pub fn declare(
     alloc: Global,

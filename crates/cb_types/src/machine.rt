@@ -1,11 +1,14 @@
 //! Faults of machines, but for those of their global names' declarations.
 
-ghost use Rattle.std.specs.Prelude.{◌≡◌, ◌+◌, [], IfOk, OnOk, length, nat_lt};
+ghost use Rattle.std.specs.Prelude.{◌≡◌, ◌+◌, [], IfOk, None, OnOk, length, nat_lt};
 ghost use Rattle.cb_forms.specs.Faults.{first};
-ghost use Rattle.cb_types.specs.Declares.{view_of, inner_view};
+ghost use Rattle.cb_judge.specs.Judged.{fault_of};
+ghost use Rattle.cb_judge.specs.Substs.{subst_fault};
+ghost use Rattle.cb_judge.specs.Writes.{shared};
+ghost use Rattle.cb_types.specs.Declares.{domains_of, view_of, inner_view};
 ghost use Rattle.cb_types.specs.MachineFaults.{again, with_seen, sees_fault, is_own_constant, properties_fault, operation_names_fault, body_fault, state_fault, maybe_fault, with_results, inside_operation, locals_fault, inside_fault, operation_fault, operations_fault, machine_fault, machines_fault};
 
-use crate::declare::{Sort, declare, domains, next_number};
+use crate::declare::{Sort, declare_plain, declare_typed, domains, next_number};
 use crate::tables::{machine_of, view};
 use cb_forms::fault::{Fault, earlier, when};
 use cb_forms::table::Table;
@@ -18,7 +21,7 @@ use cb_lex::Memory;
 use cb_lex::raw::name::RawName;
 use cb_lex::raw::subst::RawSubst;
 use cb_lex::raw::term::RawFormula;
-use cb_lex::raw::text::{RawMachine, RawOperation, RawProperty};
+use cb_lex::raw::text::{RawMachine, RawOperation, RawProperty, RawState};
 use cb_lex::token::Place;
 use std::alloc::Global;
 
@@ -108,6 +111,31 @@ fn judge_operation_names(
     Ok(fault)
 }
 
+// The faults of a body, but for what it writes twice or not at all.
+fn judge_alone(
+    alloc: Global,
+    view: &View,
+    names: &mut Table<Entry>,
+    body: &RawSubst,
+) -> Result<Option<Fault>, Memory>
+    ensures fault { IfOk result (λ f. f ≡ first (subst_fault view.now names.old [] body.now)) }
+    ensures kept { OnOk result (names.new ≡ names.old) }
+{
+    let mut given = Table::new(alloc);
+    judge_subst(alloc, view, names, &mut given, body)
+}
+
+fn judge_shared(
+    alloc: Global,
+    names: &Table<Entry>,
+    body: &RawSubst,
+) -> Result<Option<Fault>, Memory>
+    ensures { IfOk result (λ f. f ≡ first (shared names.now [] body.now)) }
+{
+    let mut written = Table::new(alloc);
+    add_shared(alloc, names, &mut written, body)
+}
+
 // The faults of a body, or of an initialisation, which is to write these names.
 #[tactic(auto, unfolding(crate::specs::MachineFaults::body_fault))]
 fn judge_body(
@@ -121,8 +149,8 @@ fn judge_body(
     ensures fault { IfOk result (λ f. f ≡ first (body_fault view.now names.old body.now at list.now)) }
     ensures kept { OnOk result (names.new ≡ names.old) }
 {
-    let own = judge_subst(alloc, view, names, &mut Table::new(alloc), body)?;
-    let shared = add_shared(alloc, names, &mut Table::new(alloc), body)?;
+    let own = judge_alone(alloc, view, names, body)?;
+    let shared = judge_shared(alloc, names, body)?;
     let missing = not_written(alloc, body, list, at)?;
     Ok(earlier(own, earlier(shared, missing)))
 }
@@ -165,23 +193,9 @@ pub fn declare_locals(
     ensures names { OnOk result (names.new ≡ inside_operation domains.now operation.now names.old) }
     ensures fault { IfOk result (λ f. f ≡ first (locals_fault domains.now operation.now names.old)) }
 {
-    let numbers = Table::new(alloc);
-    let results = declare(
-        alloc,
-        names,
-        Sort::Result,
-        &numbers,
-        &Table::new(alloc),
-        operation.results.as_slice(),
-    )?;
-    let parameters = declare(
-        alloc,
-        names,
-        Sort::Parameter,
-        &numbers,
-        domains,
-        operation.parameters.as_slice(),
-    )?;
+    let results = declare_plain(alloc, names, Sort::Result, operation.results.as_slice())?;
+    let list = operation.parameters.as_slice();
+    let parameters = declare_typed(alloc, names, Sort::Parameter, domains, list)?;
     let many = when(has_many_names(operation), 22, operation.name.place);
     Ok(earlier(results, earlier(parameters, many)))
 }
@@ -210,6 +224,20 @@ fn judge_inside(
     Ok(earlier(before, body))
 }
 
+// Declares the results and parameters of an operation, where the names outside are known.
+fn declare_inside(
+    alloc: Global,
+    view: &View,
+    names: &mut Table<Entry>,
+    operation: &RawOperation,
+) -> Result<Option<Fault>, Memory>
+    ensures names { OnOk result (names.new ≡ inside_operation (domains_of view.now names.old operation.now.precondition) operation.now names.old) }
+    ensures fault { IfOk result (λ f. f ≡ first (locals_fault (domains_of view.now names.old operation.now.precondition) operation.now names.old)) }
+{
+    let domains = domains(alloc, view, names, operation.precondition.as_ref())?;
+    declare_locals(alloc, names, &domains, operation)
+}
+
 #[tactic(auto, unfolding(crate::specs::MachineFaults::operation_fault))]
 fn judge_operation(
     alloc: Global,
@@ -221,8 +249,7 @@ fn judge_operation(
     ensures kept { OnOk result (names.new ≡ names.old) }
 {
     let outside = names.len();
-    let domains = domains(alloc, view, names, operation.precondition.as_ref())?;
-    let locals = declare_locals(alloc, names, &domains, operation)?;
+    let locals = declare_inside(alloc, view, names, operation)?;
     let inside = judge_inside(alloc, view, names, operation)?;
     names.leave(outside);
     Ok(earlier(locals, inside))
@@ -259,6 +286,37 @@ pub fn view_inside(
     Ok(view)
 }
 
+fn judge_invariant(
+    alloc: Global,
+    known: &Table<Entry>,
+    names: &mut Table<Entry>,
+    owner: u32,
+    machine: &RawMachine,
+    invariant: &RawFormula,
+) -> Result<Option<Fault>, Memory>
+    ensures fault { IfOk result (λ f. f ≡ first (fault_of (inner_view known.now owner machine.now) names.old invariant.now)) }
+    ensures kept { OnOk result (names.new ≡ names.old) }
+{
+    let inner = view_inside(alloc, known, owner, machine)?;
+    judge_formula(alloc, &inner, names, invariant)
+}
+
+fn judge_start(
+    alloc: Global,
+    known: &Table<Entry>,
+    names: &mut Table<Entry>,
+    owner: u32,
+    machine: &RawMachine,
+    state: &RawState,
+) -> Result<Option<Fault>, Memory>
+    ensures fault { IfOk result (λ f. f ≡ first (body_fault (view_of known.now owner machine.now) names.old state.now.initialisation None state.now.variables)) }
+    ensures kept { OnOk result (names.new ≡ names.old) }
+{
+    let outer = view(alloc, known, owner, machine)?;
+    let variables = state.variables.as_slice();
+    judge_body(alloc, &outer, names, &state.initialisation, None, variables)
+}
+
 fn judge_state(
     alloc: Global,
     known: &Table<Entry>,
@@ -272,20 +330,25 @@ fn judge_state(
     match &machine.state {
         None => Ok(None),
         Some(state) => {
-            let inner = view_inside(alloc, known, owner, machine)?;
-            let invariant = judge_formula(alloc, &inner, names, &state.invariant)?;
-            let outer = view(alloc, known, owner, machine)?;
-            let start = judge_body(
-                alloc,
-                &outer,
-                names,
-                &state.initialisation,
-                None,
-                state.variables.as_slice(),
-            )?;
+            let invariant = judge_invariant(alloc, known, names, owner, machine, &state.invariant)?;
+            let start = judge_start(alloc, known, names, owner, machine, state)?;
             Ok(earlier(invariant, start))
         }
     }
+}
+
+fn judge_machine_operations(
+    alloc: Global,
+    known: &Table<Entry>,
+    names: &mut Table<Entry>,
+    owner: u32,
+    machine: &RawMachine,
+) -> Result<Option<Fault>, Memory>
+    ensures fault { IfOk result (λ f. f ≡ first (operations_fault (inner_view known.now owner machine.now) names.old machine.now.operations)) }
+    ensures kept { OnOk result (names.new ≡ names.old) }
+{
+    let inner = view_inside(alloc, known, owner, machine)?;
+    judge_operations(alloc, &inner, names, machine.operations.as_slice())
 }
 
 #[tactic(auto, unfolding(crate::specs::MachineFaults::machine_fault))]
@@ -303,8 +366,7 @@ fn judge_machine(
     let properties = judge_properties(alloc, owner, known, machine.properties.as_slice())?;
     let twice = judge_operation_names(alloc, machine.operations.as_slice())?;
     let state = judge_state(alloc, known, names, owner, machine)?;
-    let view = view_inside(alloc, known, owner, machine)?;
-    let operations = judge_operations(alloc, &view, names, machine.operations.as_slice())?;
+    let operations = judge_machine_operations(alloc, known, names, owner, machine)?;
     Ok(earlier(
         earlier(sees, properties),
         earlier(twice, earlier(state, operations)),

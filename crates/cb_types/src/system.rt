@@ -1,7 +1,10 @@
 //! The system of a text, in normal form.
 
-ghost use Rattle.std.specs.Prelude.{◌≡◌, ◌++◌, IfOk, OnOk, map};
-ghost use Rattle.cb_types.specs.NormalMachines.{written_name, declared_name, maybe_formula, kind_or_set, given_kind, result_name, operation_with, results_in, operation_inside, operation_in, invariant_in, start_in, machine_with, variables_in, machine_in, machines_in, set_in, constant_in, sets_of, constants_of, known_in, names_in};
+ghost use Rattle.std.specs.Prelude.{◌≡◌, ◌++◌, [], IfOk, OnOk, map};
+ghost use Rattle.cb_normal.specs.NormalSubsts.{subst_in};
+ghost use Rattle.cb_types.specs.Declares.{domains_of, view_of, inner_view, numbers_from};
+ghost use Rattle.cb_types.specs.MachineFaults.{inside_operation};
+ghost use Rattle.cb_types.specs.NormalMachines.{written_name, declared_name, maybe_formula, kind_or_set, given_kind, result_name, results_in, operation_inside, operation_in, invariant_in, start_in, variables_in, machine_in, machines_in, set_in, constant_in, sets_of, constants_of, known_in, names_in};
 ghost use Rattle.cb_types.specs.Whole.{IsSystemOf};
 
 use crate::declare::{domains, next_number, number_or_zero, numbers};
@@ -116,34 +119,69 @@ fn results_inside(
 {
     let mut given = Table::new(alloc);
     judge_subst(alloc, view, names, &mut given, &operation.body)?;
-    Ok(all_results(alloc, &given, operation.results.as_slice())?)
+    all_results(alloc, &given, operation.results.as_slice())
 }
 
-// The operation of these parts.
-#[tactic(auto, unfolding(crate::specs::NormalMachines::operation_with))]
-fn with_name(
+// What an operation says, but for its precondition and its body. One value of several parts is one to drop where memory is wanting.
+#[derive(Drop)]
+struct Heading {
+    name: Name,
+    params: Items<Declared>,
+    results: Items<(Name, Kind)>,
+}
+
+fn name_and_parameters(
     alloc: Global,
     domains: &Table<Choice>,
     operation: &RawOperation,
-    results: Items<(Name, Kind)>,
-    pre: Formula,
-    body: Subst,
-) -> Result<Operation, Memory>
-    ensures { IfOk result (λ o. o ≡ operation_with domains.now operation.now results pre body) }
+) -> Result<(Name, Items<Declared>), Memory>
+    ensures name { IfOk result (λ r. r.0 ≡ written_name operation.now.name) }
+    ensures parameters { IfOk result (λ r. r.1 ≡ map (declared_name domains.now) operation.now.parameters) }
 {
     let name = copy_name(alloc, &operation.name)?;
     let params = all_declared(alloc, domains, operation.parameters.as_slice())?;
-    Ok(Operation {
+    Ok((name, params))
+}
+
+// The heading of an operation, where the names inside are known.
+fn operation_heading(
+    alloc: Global,
+    view: &View,
+    domains: &Table<Choice>,
+    names: &mut Table<Entry>,
+    operation: &RawOperation,
+) -> Result<Heading, Memory>
+    ensures name { IfOk result (λ h. h.name ≡ written_name operation.now.name) }
+    ensures parameters { IfOk result (λ h. h.params ≡ map (declared_name domains.now) operation.now.parameters) }
+    ensures results { IfOk result (λ h. h.results ≡ results_in view.now names.old operation.now) }
+    ensures kept { OnOk result (names.new ≡ names.old) }
+{
+    let results = results_inside(alloc, view, names, operation)?;
+    let (name, params) = name_and_parameters(alloc, domains, operation)?;
+    Ok(Heading {
         name,
         params,
         results,
-        pre,
-        body,
     })
 }
 
+fn precondition_and_body(
+    alloc: Global,
+    view: &View,
+    names: &mut Table<Entry>,
+    operation: &RawOperation,
+) -> Result<(Formula, Subst), Memory>
+    ensures precondition { IfOk result (λ r. r.0 ≡ maybe_formula view.now names.old operation.now.precondition) }
+    ensures body { IfOk result (λ r. r.1 ≡ subst_in view.now names.old operation.now.body) }
+    ensures kept { OnOk result (names.new ≡ names.old) }
+{
+    let pre = normal_maybe(alloc, view, names, &operation.precondition)?;
+    let body = normal_subst(alloc, view, names, &operation.body)?;
+    Ok((pre, body))
+}
+
 // The normal form of an operation, where the names inside are known.
-#[tactic(auto, unfolding(crate::specs::NormalMachines::operation_inside))]
+#[tactic(auto, unfolding(crate::specs::NormalMachines::operation_inside, crate::specs::NormalMachines::operation_with))]
 fn normal_inside(
     alloc: Global,
     view: &View,
@@ -154,10 +192,35 @@ fn normal_inside(
     ensures operation { IfOk result (λ o. o ≡ operation_inside view.now domains.now names.old operation.now) }
     ensures kept { OnOk result (names.new ≡ names.old) }
 {
-    let results = results_inside(alloc, view, names, operation)?;
-    let pre = normal_maybe(alloc, view, names, &operation.precondition)?;
-    let body = normal_subst(alloc, view, names, &operation.body)?;
-    Ok(with_name(alloc, domains, operation, results, pre, body)?)
+    let heading = operation_heading(alloc, view, domains, names, operation)?;
+    let (pre, body) = precondition_and_body(alloc, view, names, operation)?;
+    let Heading {
+        name,
+        params,
+        results,
+    } = heading;
+    Ok(Operation {
+        name,
+        params,
+        results,
+        pre,
+        body,
+    })
+}
+
+// The normal form of an operation. The names end as those inside it.
+fn declared_operation(
+    alloc: Global,
+    view: &View,
+    names: &mut Table<Entry>,
+    operation: &RawOperation,
+) -> Result<Operation, Memory>
+    ensures operation { IfOk result (λ o. o ≡ operation_in view.now names.old operation.now) }
+    ensures names { OnOk result (names.new ≡ inside_operation (domains_of view.now names.old operation.now.precondition) operation.now names.old) }
+{
+    let domains = domains(alloc, view, names, operation.precondition.as_ref())?;
+    declare_locals(alloc, names, &domains, operation)?;
+    Ok(normal_inside(alloc, view, &domains, names, operation)?)
 }
 
 fn normal_operation(
@@ -170,9 +233,7 @@ fn normal_operation(
     ensures kept { OnOk result (names.new ≡ names.old) }
 {
     let outside = names.len();
-    let domains = domains(alloc, view, names, operation.precondition.as_ref())?;
-    declare_locals(alloc, names, &domains, operation)?;
-    let normal = normal_inside(alloc, view, &domains, names, operation)?;
+    let normal = declared_operation(alloc, view, names, operation)?;
     names.leave(outside);
     Ok(normal)
 }
@@ -232,65 +293,111 @@ fn machine_variables(
     ensures { IfOk result (λ ds. ds ≡ variables_in known.now owner machine.now) }
 {
     let domains = variable_domains(alloc, known, owner, machine)?;
-    Ok(all_declared(alloc, &domains, variables(&machine.state))?)
+    all_declared(alloc, &domains, variables(&machine.state))
 }
 
-// The machine of these parts.
-#[tactic(auto, unfolding(crate::specs::NormalMachines::machine_with))]
-fn machine_of_parts(
-    alloc: Global,
+// What a machine says, but for its invariant and its initialisation.
+#[derive(Drop)]
+struct Outline {
+    name: Name,
     variables: Items<Declared>,
-    machine: &RawMachine,
-    invariant: Formula,
-    init: Subst,
     operations: Items<Operation>,
-) -> Result<Machine, Memory>
-    ensures { IfOk result (λ m. m ≡ machine_with variables machine.now invariant init operations) }
+}
+
+fn name_and_variables(
+    alloc: Global,
+    known: &Table<Entry>,
+    owner: u32,
+    machine: &RawMachine,
+) -> Result<(Name, Items<Declared>), Memory>
+    ensures name { IfOk result (λ r. r.0 ≡ written_name machine.now.name) }
+    ensures variables { IfOk result (λ r. r.1 ≡ variables_in known.now owner machine.now) }
 {
     let name = copy_name(alloc, &machine.name)?;
-    Ok(Machine {
+    let variables = machine_variables(alloc, known, owner, machine)?;
+    Ok((name, variables))
+}
+
+fn machine_operations(
+    alloc: Global,
+    known: &Table<Entry>,
+    names: &mut Table<Entry>,
+    owner: u32,
+    machine: &RawMachine,
+) -> Result<Items<Operation>, Memory>
+    ensures operations { IfOk result (λ os. os ≡ map (operation_in (inner_view known.now owner machine.now) names.old) machine.now.operations) }
+    ensures kept { OnOk result (names.new ≡ names.old) }
+{
+    let inner = view_inside(alloc, known, owner, machine)?;
+    normal_operations(alloc, &inner, names, machine.operations.as_slice())
+}
+
+fn machine_outline(
+    alloc: Global,
+    known: &Table<Entry>,
+    names: &mut Table<Entry>,
+    owner: u32,
+    machine: &RawMachine,
+) -> Result<Outline, Memory>
+    ensures name { IfOk result (λ h. h.name ≡ written_name machine.now.name) }
+    ensures variables { IfOk result (λ h. h.variables ≡ variables_in known.now owner machine.now) }
+    ensures operations { IfOk result (λ h. h.operations ≡ map (operation_in (inner_view known.now owner machine.now) names.old) machine.now.operations) }
+    ensures kept { OnOk result (names.new ≡ names.old) }
+{
+    let operations = machine_operations(alloc, known, names, owner, machine)?;
+    let (name, variables) = name_and_variables(alloc, known, owner, machine)?;
+    Ok(Outline {
         name,
         variables,
-        invariant,
-        init,
         operations,
     })
 }
 
-// The machine with these variables, invariant and initialisation, and its operations.
-fn machine_with_operations(
+fn machine_invariant(
     alloc: Global,
-    inner: &View,
+    known: &Table<Entry>,
     names: &mut Table<Entry>,
-    variables: Items<Declared>,
+    owner: u32,
     machine: &RawMachine,
-    invariant: Formula,
-    init: Subst,
-) -> Result<Machine, Memory>
-    ensures machine { IfOk result (λ m. m ≡ machine_with variables machine.now invariant init (map (operation_in inner.now names.old) machine.now.operations)) }
+) -> Result<Formula, Memory>
+    ensures invariant { IfOk result (λ f. f ≡ invariant_in (inner_view known.now owner machine.now) names.old machine.now.state) }
     ensures kept { OnOk result (names.new ≡ names.old) }
 {
-    let operations = normal_operations(alloc, inner, names, machine.operations.as_slice())?;
-    machine_of_parts(alloc, variables, machine, invariant, init, operations)
+    let inner = view_inside(alloc, known, owner, machine)?;
+    normal_invariant(alloc, &inner, names, &machine.state)
 }
 
-// The machine with these variables. Its operations and invariant see `inner`, and its initialisation sees `outer`.
-fn machine_with_variables(
+fn machine_start(
     alloc: Global,
-    inner: &View,
-    outer: &View,
+    known: &Table<Entry>,
     names: &mut Table<Entry>,
-    variables: Items<Declared>,
+    owner: u32,
     machine: &RawMachine,
-) -> Result<Machine, Memory>
-    ensures machine { IfOk result (λ m. m ≡ machine_with variables machine.now (invariant_in inner.now names.old machine.now.state) (start_in outer.now names.old machine.now.state) (map (operation_in inner.now names.old) machine.now.operations)) }
+) -> Result<Subst, Memory>
+    ensures start { IfOk result (λ s. s ≡ start_in (view_of known.now owner machine.now) names.old machine.now.state) }
     ensures kept { OnOk result (names.new ≡ names.old) }
 {
-    let invariant = normal_invariant(alloc, inner, names, &machine.state)?;
-    let init = normal_start(alloc, outer, names, &machine.state)?;
-    machine_with_operations(alloc, inner, names, variables, machine, invariant, init)
+    let outer = view(alloc, known, owner, machine)?;
+    normal_start(alloc, &outer, names, &machine.state)
 }
 
+fn invariant_and_start(
+    alloc: Global,
+    known: &Table<Entry>,
+    names: &mut Table<Entry>,
+    owner: u32,
+    machine: &RawMachine,
+) -> Result<(Formula, Subst), Memory>
+    ensures invariant { IfOk result (λ r. r.0 ≡ invariant_in (inner_view known.now owner machine.now) names.old machine.now.state) }
+    ensures start { IfOk result (λ r. r.1 ≡ start_in (view_of known.now owner machine.now) names.old machine.now.state) }
+    ensures kept { OnOk result (names.new ≡ names.old) }
+{
+    let invariant = machine_invariant(alloc, known, names, owner, machine)?;
+    let init = machine_start(alloc, known, names, owner, machine)?;
+    Ok((invariant, init))
+}
+
+#[tactic(auto, unfolding(crate::specs::NormalMachines::machine_in, crate::specs::NormalMachines::machine_with))]
 fn normal_machine(
     alloc: Global,
     known: &Table<Entry>,
@@ -301,10 +408,20 @@ fn normal_machine(
     ensures machine { IfOk result (λ m. m ≡ machine_in known.now names.old owner machine.now) }
     ensures kept { OnOk result (names.new ≡ names.old) }
 {
-    let variables = machine_variables(alloc, known, owner, machine)?;
-    let inner = view_inside(alloc, known, owner, machine)?;
-    let outer = view(alloc, known, owner, machine)?;
-    machine_with_variables(alloc, &inner, &outer, names, variables, machine)
+    let outline = machine_outline(alloc, known, names, owner, machine)?;
+    let (invariant, init) = invariant_and_start(alloc, known, names, owner, machine)?;
+    let Outline {
+        name,
+        variables,
+        operations,
+    } = outline;
+    Ok(Machine {
+        name,
+        variables,
+        invariant,
+        init,
+        operations,
+    })
 }
 
 fn normal_machines(
@@ -385,15 +502,37 @@ fn add_constants(
     Ok(())
 }
 
+fn add_machine_constants(
+    alloc: Global,
+    all: &mut Items<(Name, i64)>,
+    machine: &RawMachine,
+) -> Result<(), Memory>
+    ensures { OnOk result (all.new ≡ all.old ++ map (constant_in (numbers_from [] machine.now.properties)) machine.now.constants) }
+{
+    let numbers = numbers(alloc, machine.properties.as_slice())?;
+    add_constants(alloc, all, &numbers, machine.constants.as_slice())
+}
+
 fn all_constants(alloc: Global, machines: &[RawMachine]) -> Result<Items<(Name, i64)>, Memory>
     ensures { IfOk result (λ cs. cs ≡ constants_of machines.now) }
 {
     let mut all = Items::new(alloc);
     for machine in machines {
-        let numbers = numbers(alloc, machine.properties.as_slice())?;
-        add_constants(alloc, &mut all, &numbers, machine.constants.as_slice())?;
+        add_machine_constants(alloc, &mut all, machine)?;
     }
     Ok(all)
+}
+
+fn sets_and_constants(
+    alloc: Global,
+    machines: &[RawMachine],
+) -> Result<(Vec<SetNames>, Items<(Name, i64)>), Memory>
+    ensures sets { IfOk result (λ r. r.0.items ≡ sets_of machines.now) }
+    ensures constants { IfOk result (λ r. r.1 ≡ constants_of machines.now) }
+{
+    let sets = all_sets(alloc, machines)?;
+    let constants = all_constants(alloc, machines)?;
+    Ok((sets, constants))
 }
 
 /// The system of the machines, whose names are `known`, and `names`.
@@ -407,9 +546,8 @@ pub fn system(
     requires names { names.old ≡ names_in machines.now }
     ensures { IfOk result (λ y. IsSystemOf machines.now y) }
 {
-    let sets = all_sets(alloc, machines)?;
-    let constants = all_constants(alloc, machines)?;
     let normal = normal_machines(alloc, known, names, machines)?;
+    let (sets, constants) = sets_and_constants(alloc, machines)?;
     Ok(System {
         sets: SetTable { sets },
         constants,

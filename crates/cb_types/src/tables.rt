@@ -2,10 +2,12 @@
 
 ghost use Rattle.std.specs.Prelude.{◌≡◌, [], ◌∷◌, IfOk, OnOk, length, option_copied};
 ghost use Rattle.cb_forms.specs.Faults.{first};
-ghost use Rattle.cb_types.specs.Declares.{with_set_name, with_sets, set_fault, sets_fault, after_sets, with_machine_name, with_statics, statics_fault, statics_of, machine_number, with_owner, sees_from, view_of, invariant_of, variables_of, own_domains, with_variables, names_of, globals_fault, names_fault, declared, reserved};
-ghost use Rattle.cb_types.specs.declared.declare.Sort.TheVariants.{Element as element};
+ghost use Rattle.cb_types.specs.Declares.{with_set_name, with_sets, set_fault, sets_fault, after_sets, with_machine_name, with_statics, statics_fault, statics_of, machine_number, with_owner, sees_from, view_of, invariant_of, variables_of, own_domains, with_variables, names_of, globals_fault, names_fault, numbers_from, declared, declare_fault, reserved};
+ghost use Rattle.cb_types.specs.declared.declare.Sort.TheVariants.{Element as element, Constant as constant, Variable as variable};
 
-use crate::declare::{Sort, declare, domains, next_number, numbers};
+use crate::declare::{
+    Sort, declare_numbered, declare_plain, declare_typed, domains, next_number, numbers,
+};
 use cb_forms::fault::{Fault, earlier, when};
 use cb_forms::owners::Owners;
 use cb_forms::table::Table;
@@ -50,15 +52,7 @@ fn declare_set(
     );
     enter_set(alloc, names, owner, set, raw)?;
     let sort = Sort::Element { owner, set };
-    let none = Table::new(alloc);
-    let elements = declare(
-        alloc,
-        names,
-        sort,
-        &none,
-        &Table::new(alloc),
-        raw.elements.as_slice(),
-    )?;
+    let elements = declare_plain(alloc, names, sort, raw.elements.as_slice())?;
     Ok(earlier(own, elements))
 }
 
@@ -97,6 +91,20 @@ fn enter_machine(
     names.enter(alloc, name.text.as_slice(), Entry { meaning, place })
 }
 
+fn declare_constants(
+    alloc: Global,
+    names: &mut Table<Entry>,
+    owner: u32,
+    machine: &RawMachine,
+) -> Result<Option<Fault>, Memory>
+    ensures names { OnOk result (names.new ≡ declared (constant owner) (numbers_from [] machine.now.properties) [] 0 names.old machine.now.constants) }
+    ensures fault { IfOk result (λ f. f ≡ first (declare_fault (constant owner) (numbers_from [] machine.now.properties) [] 0 names.old machine.now.constants)) }
+{
+    let numbers = numbers(alloc, machine.properties.as_slice())?;
+    let list = machine.constants.as_slice();
+    declare_numbered(alloc, names, Sort::Constant(owner), &numbers, list)
+}
+
 // Declares a machine's name, sets and constants; its first set has this number. The answer has the number after the last.
 fn declare_statics(
     alloc: Global,
@@ -112,16 +120,7 @@ fn declare_statics(
     let own = double(names, &machine.name);
     enter_machine(alloc, names, owner, &machine.name)?;
     let (next, sets) = declare_sets(alloc, names, owner, set, machine.sets.as_slice())?;
-    let numbers = numbers(alloc, machine.properties.as_slice())?;
-    let sort = Sort::Constant(owner);
-    let constants = declare(
-        alloc,
-        names,
-        sort,
-        &numbers,
-        &Table::new(alloc),
-        machine.constants.as_slice(),
-    )?;
+    let constants = declare_constants(alloc, names, owner, machine)?;
     Ok((next, earlier(own, earlier(sets, constants))))
 }
 
@@ -225,7 +224,22 @@ pub fn variable_domains(
     ensures { IfOk result (λ ds. ds ≡ own_domains known.now owner machine.now) }
 {
     let view = view(alloc, known, owner, machine)?;
-    Ok(domains(alloc, &view, known, invariant(&machine.state))?)
+    domains(alloc, &view, known, invariant(&machine.state))
+}
+
+fn declare_variables(
+    alloc: Global,
+    known: &Table<Entry>,
+    names: &mut Table<Entry>,
+    owner: u32,
+    machine: &RawMachine,
+) -> Result<Option<Fault>, Memory>
+    ensures names { OnOk result (names.new ≡ with_variables known.now owner names.old machine.now) }
+    ensures fault { IfOk result (λ f. f ≡ first (declare_fault (variable owner) [] (own_domains known.now owner machine.now) 0 names.old (variables_of machine.now.state))) }
+{
+    let domains = variable_domains(alloc, known, owner, machine)?;
+    let list = variables(&machine.state);
+    declare_typed(alloc, names, Sort::Variable(owner), &domains, list)
 }
 
 // Declares a machine's name, sets, constants and variables; its first set has this number. The answer has the number after the last.
@@ -242,16 +256,7 @@ fn declare_machine(
     ensures fault { IfOk result (λ r. r.1 ≡ first (globals_fault known.now owner set names.old machine.now)) }
 {
     let (next, statics) = declare_statics(alloc, names, owner, set, machine)?;
-    let domains = variable_domains(alloc, known, owner, machine)?;
-    let sort = Sort::Variable(owner);
-    let own = declare(
-        alloc,
-        names,
-        sort,
-        &Table::new(alloc),
-        &domains,
-        variables(&machine.state),
-    )?;
+    let own = declare_variables(alloc, known, names, owner, machine)?;
     Ok((next, earlier(statics, own)))
 }
 

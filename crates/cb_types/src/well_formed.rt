@@ -77,6 +77,15 @@ fn system_or_fault(
     }
 }
 
+// What the names of the machines stand for.
+fn known_names(alloc: Global, machines: &[RawMachine]) -> Result<Table<Entry>, Memory>
+    ensures { IfOk result (λ known. known ≡ known_in machines.now) }
+{
+    let mut known = reserved_names(alloc)?;
+    statics(alloc, &mut known, machines)?;
+    Ok(known)
+}
+
 /// The system of a text of machines, in which constants stand as their numbers and each sign is one of the few that are kept. The
 /// answer is exactly the least code that occurs in the text, at its first place, where one occurs.
 pub fn well_formed(alloc: Global, raw: &RawText) -> Result<System, IllFormed>
@@ -85,8 +94,7 @@ pub fn well_formed(alloc: Global, raw: &RawText) -> Result<System, IllFormed>
     ensures fault { IfErr result (λ e. Tells raw.now.machines e) }
 {
     let machines = raw.machines.as_slice();
-    let mut known = reserved_names(alloc)?;
-    statics(alloc, &mut known, machines)?;
+    let known = known_names(alloc, machines)?;
     let mut all = reserved_names(alloc)?;
     system_or_fault(alloc, &known, &mut all, machines)
 }

@@ -1,5 +1,4 @@
-use Rattle.std.proofs.Common.{◌≡◌, ◌++◌, [], drop, map}
-use Rattle.cb_forms.specs.Faults.{least, first}
+use Rattle.std.proofs.Common.{◌≡◌, [], drop}
 use Rattle.cb_types.specs.Declares.{numbers_from}
 use Rattle.cb_types.proofs.declare.numbers.Given as goal
 

@@ -1,4 +1,5 @@
-use Rattle.std.proofs.Common.{◌≡◌, ap, ◌∙◌, length, take}
+use Rattle.std.proofs.Common.{ap, ◌∙◌, length, take}
+use Rattle.cb_types.specs.Declares.{domains_of}
 use Rattle.cb_types.proofs.Growing.{take_operation}
 use Rattle.cb_types.proofs.machine.judge_operation.Goals as goal
 
@@ -7,4 +8,4 @@ returns-clause-kept c =
     c.leave.ensures
     ∙ ap (λ n. take n c.judge_inside.new.names) c.len-outside.ensures
     ∙ ap (take (length c.args.names.now)) (c.in_ok-inside.ensures.kept ∙ c.in_ok-locals.ensures.names)
-    ∙ take_operation c.in_ok-domains.domains c.args.operation.now c.args.names.now
+    ∙ take_operation (domains_of c.args.view.now c.args.names.now c.args.operation.now.precondition) c.args.operation.now c.args.names.now

@@ -1,6 +1,5 @@
-use Rattle.std.proofs.Common.{◌≡◌, ◌++◌, [], drop, map}
+use Rattle.std.proofs.Common.{◌≡◌, [], drop}
 use Rattle.cb_forms.specs.Faults.{least, first}
-use Rattle.cb_types.specs.Declares.{names_fault}
 use Rattle.cb_types.specs.MachineFaults.{operation_names_fault}
 use Rattle.cb_types.proofs.machine.judge_operation_names.Given as goal
 

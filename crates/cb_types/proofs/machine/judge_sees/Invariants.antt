@@ -1,4 +1,4 @@
-use Rattle.std.proofs.Common.{◌≡◌, ◌++◌, [], drop, map}
+use Rattle.std.proofs.Common.{◌≡◌, [], drop}
 use Rattle.cb_forms.specs.Faults.{least, first}
 use Rattle.cb_types.specs.MachineFaults.{sees_fault}
 use Rattle.cb_types.proofs.machine.judge_sees.Given as goal

@@ -1,6 +1,4 @@
-use Rattle.std.proofs.Common.{◌≡◌, ◌++◌, [], drop, map}
-use Rattle.cb_forms.specs.Faults.{least, first}
-use Rattle.cb_types.specs.Declares.{declared}
+use Rattle.std.proofs.Common.{◌≡◌, ◌++◌, drop, map}
 use Rattle.cb_types.specs.NormalMachines.{declared_name}
 use Rattle.cb_types.proofs.system.all_declared.Given as goal
 

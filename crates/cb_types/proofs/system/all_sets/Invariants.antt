@@ -1,5 +1,4 @@
-use Rattle.std.proofs.Common.{◌≡◌, ◌++◌, [], drop, map}
-use Rattle.cb_forms.specs.Faults.{least, first}
+use Rattle.std.proofs.Common.{◌≡◌, ◌++◌, drop}
 use Rattle.cb_types.specs.NormalMachines.{sets_of}
 use Rattle.cb_types.proofs.system.all_sets.Given as goal
 

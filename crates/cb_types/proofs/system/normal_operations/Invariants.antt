@@ -1,5 +1,4 @@
-use Rattle.std.proofs.Common.{◌≡◌, ◌++◌, [], drop, map}
-use Rattle.cb_forms.specs.Faults.{least, first}
+use Rattle.std.proofs.Common.{◌≡◌, ◌++◌, drop, map}
 use Rattle.cb_types.specs.NormalMachines.{operation_in}
 use Rattle.cb_types.proofs.system.normal_operations.Given as goal
 

@@ -1,5 +1,4 @@
-use Rattle.std.proofs.Common.{◌≡◌, ◌++◌, [], drop, map}
-use Rattle.cb_forms.specs.Faults.{least, first}
+use Rattle.std.proofs.Common.{◌≡◌, drop}
 use Rattle.cb_types.specs.Declares.{sees_from}
 use Rattle.cb_types.proofs.tables.add_seen.Given as goal
 

@@ -1,4 +1,4 @@
-use Rattle.std.proofs.Common.{◌≡◌, ◌++◌, [], drop, map}
+use Rattle.std.proofs.Common.{◌≡◌, drop}
 use Rattle.cb_forms.specs.Faults.{least, first}
 use Rattle.cb_types.specs.Declares.{with_sets, sets_fault, after_sets}
 use Rattle.cb_types.proofs.tables.declare_sets.Given as goal

@@ -1,4 +1,4 @@
-use Rattle.std.proofs.Common.{◌≡◌, sym, ◌∙◌}
+use Rattle.std.proofs.Common.{sym, ◌∙◌}
 use Rattle.cb_types.proofs.Firsts.{none_is_fine, some_is_first}
 use Rattle.cb_types.proofs.well_formed.system_or_fault.Goals as goal
 
