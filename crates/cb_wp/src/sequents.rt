@@ -29,7 +29,8 @@ pub fn copy_names(alloc: Global, names: &[(Name, Kind)]) -> Result<Vec<(Name, Ki
 {
     let mut copies = Vec::new(alloc);
     for named in names {
-        put(&mut copies, (named.0.copy(alloc)?, named.1))?;
+        let name = named.0.copy(alloc)?;
+        put(&mut copies, (name, named.1))?;
     }
     Ok(copies)
 }
@@ -91,6 +92,40 @@ pub fn add_conjuncts(
     }
 }
 
+/// The same names and formulas again.
+pub fn copy_around(
+    alloc: Global,
+    names: &[(Name, Kind)],
+    hypotheses: &[Formula],
+) -> Result<(Vec<(Name, Kind)>, Vec<Formula>), Memory>
+    ensures names { IfOk result (λ c. c.0.items ≡ names.now) }
+    ensures hypotheses { IfOk result (λ c. c.1.items ≡ hypotheses.now) }
+{
+    let names = copy_names(alloc, names)?;
+    let hypotheses = copy_formulas(alloc, hypotheses)?;
+    Ok((names, hypotheses))
+}
+
+fn put_sequent(
+    alloc: Global,
+    names: &[(Name, Kind)],
+    hypotheses: &[Formula],
+    goal: Formula,
+    into: &mut Vec<Sequent>,
+) -> Result<(), Memory>
+    ensures { OnOk result (map claim_of into.new.items ≡ map claim_of into.old.items ++ claim names.now hypotheses.now goal ∷ []) }
+{
+    let (names, hypotheses) = copy_around(alloc, names, hypotheses)?;
+    put(
+        into,
+        Sequent {
+            names,
+            hypotheses,
+            goal,
+        },
+    )
+}
+
 /// Appends the sequent, or says which limit is passed. `carried` are the nodes of the hypotheses.
 pub fn add_sequent(
     alloc: Global,
@@ -117,12 +152,7 @@ pub fn add_sequent(
     if total > 4_000_000 {
         return Err(MakeFault::Limit(Which::Nodes));
     }
-    let sequent = Sequent {
-        names: copy_names(alloc, names)?,
-        hypotheses: copy_formulas(alloc, hypotheses)?,
-        goal,
-    };
-    put(into, sequent)?;
+    put_sequent(alloc, names, hypotheses, goal, into)?;
     used.obligations += 1;
     used.nodes = total;
     Ok(())
