@@ -17,7 +17,7 @@ use crate::branches::{branch_count, kind_of, with_first};
 use crate::changes::put;
 use crate::limits::{MakeFault, Used, Which};
 use crate::pieces::pieces_after;
-use crate::transform::{closed_over, live, transformed};
+use crate::transform::{closed_over, live, transformed, where_it_holds};
 use cb_seq::sequent::{Group, ObName, Obligation, Sequent};
 use cb_spec::system::{Declared, Machine, Operation};
 use cb_term::Memory;
@@ -64,9 +64,8 @@ fn under_precondition(
 ) -> Result<Formula, Memory>
     ensures { IfOk result (λ f. f ≡ transform.closed_over bound.now (tree.Implies pre.now formula.now)) }
 {
-    let pre = closed_over(alloc, bound, pre)?;
     let inside = closed_over(alloc, bound, formula)?;
-    Formula::implies(alloc, pre, inside)
+    where_it_holds(alloc, bound, pre, inside)
 }
 
 // `P => F` for all values of the parameters. `bound` are the names bound around it, the innermost first.
@@ -182,25 +181,38 @@ fn first_name(
     })
 }
 
+fn pieces_of(
+    alloc: Global,
+    names: &[(Name, Kind)],
+    formula: Formula,
+    used: &mut Used,
+) -> Result<Vec<Sequent>, MakeFault>
+    ensures counted { OnOk result (Counted used.old used.new (steps_under [] 0 names.now [] formula)) }
+    ensures list { IfOk result (λ v. map claim_of v.items ≡ pieces.pieces names.now [] 0 formula) }
+    ensures fault { IfErr result (λ e. Faulted e used.old (steps_under [] 0 names.now [] formula)) }
+{
+    pieces_after(alloc, names, &[], 0, &formula, used)
+}
+
 #[tactic(auto, unfolding(crate::specs::Limits::formula_steps))]
 // Appends the formula's pieces as the obligations of the group.
 fn add_group(
     alloc: Global,
     machine: &Machine,
     names: &[(Name, Kind)],
-    formula: &Formula,
+    formula: Formula,
     group: Group,
     part: Option<Name>,
     used: &mut Used,
     into: &mut Vec<Obligation>,
 ) -> Result<(), MakeFault>
     requires { names.now ≡ owed.with_kinds machine.now.variables }
-    ensures counted { OnOk result (Counted used.old used.new (formula_steps machine.now formula.now)) }
-    ensures list { OnOk result (map owed_of into.new.items ≡ map owed_of into.old.items ++ named group machine.now.name part 1 (owed.pieces_of machine.now formula.now)) }
-    ensures fault { IfErr result (λ e. Faulted e used.old (formula_steps machine.now formula.now)) }
+    ensures counted { OnOk result (Counted used.old used.new (formula_steps machine.now formula)) }
+    ensures list { OnOk result (map owed_of into.new.items ≡ map owed_of into.old.items ++ named group machine.now.name part 1 (owed.pieces_of machine.now formula)) }
+    ensures fault { IfErr result (λ e. Faulted e used.old (formula_steps machine.now formula)) }
 {
+    let sequents = pieces_of(alloc, names, formula, used)?;
     let first = first_name(alloc, group, machine, part)?;
-    let sequents = pieces_after(alloc, names, &[], 0, formula, used)?;
     add_named(alloc, &first, sequents, into)?;
     Ok(())
 }
@@ -223,7 +235,7 @@ fn add_init(
         alloc,
         machine,
         names,
-        &formula,
+        formula,
         Group::Init,
         None,
         used,
@@ -249,7 +261,7 @@ fn add_init_live(
         alloc,
         machine,
         names,
-        &formula,
+        formula,
         Group::Live,
         None,
         used,
@@ -275,7 +287,7 @@ fn add_of_operation(
 {
     let part = operation.name.copy(alloc)?;
     let whole = of_operation(alloc, &machine.invariant, operation, formula)?;
-    add_group(alloc, machine, names, &whole, group, Some(part), used, into)
+    add_group(alloc, machine, names, whole, group, Some(part), used, into)
 }
 
 // That the operation keeps the invariant.

@@ -126,6 +126,33 @@ fn put_sequent(
     )
 }
 
+// Counts the sequent, whose names don't count, or says which limit is passed.
+fn count_sequent(
+    hypotheses: &[Formula],
+    carried: u64,
+    goal: &Formula,
+    used: &mut Used,
+) -> Result<(), MakeFault>
+    requires { carried ≡ min (formulas_nodes hypotheses.now) (2 ^ 64 - 1) }
+    ensures counted { OnOk result (Counted used.old used.new (Make (claim [] hypotheses.now goal.now) ∷ [])) }
+    ensures fault { IfErr result (λ e. Faulted e used.old (Make (claim [] hypotheses.now goal.now) ∷ [])) }
+{
+    if used.obligations >= 4096 {
+        return Err(MakeFault::Limit(Which::Obligations));
+    }
+    let size = carried.saturating_add(nodes(goal));
+    if size > 20_000 {
+        return Err(MakeFault::Limit(Which::Sequent));
+    }
+    let total = used.nodes.saturating_add(size);
+    if total > 4_000_000 {
+        return Err(MakeFault::Limit(Which::Nodes));
+    }
+    used.obligations += 1;
+    used.nodes = total;
+    Ok(())
+}
+
 /// Appends the sequent, or says which limit is passed. `carried` are the nodes of the hypotheses.
 pub fn add_sequent(
     alloc: Global,
@@ -141,19 +168,7 @@ pub fn add_sequent(
     ensures list { OnOk result (map claim_of into.new.items ≡ map claim_of into.old.items ++ claim names.now hypotheses.now goal ∷ []) }
     ensures fault { IfErr result (λ e. Faulted e used.old (Make (claim names.now hypotheses.now goal) ∷ [])) }
 {
-    if used.obligations >= 4096 {
-        return Err(MakeFault::Limit(Which::Obligations));
-    }
-    let size = carried.saturating_add(nodes(&goal));
-    if size > 20_000 {
-        return Err(MakeFault::Limit(Which::Sequent));
-    }
-    let total = used.nodes.saturating_add(size);
-    if total > 4_000_000 {
-        return Err(MakeFault::Limit(Which::Nodes));
-    }
+    count_sequent(hypotheses, carried, &goal, used)?;
     put_sequent(alloc, names, hypotheses, goal, into)?;
-    used.obligations += 1;
-    used.nodes = total;
     Ok(())
 }

@@ -1,8 +1,9 @@
 //! What must hold before for a formula to hold after, and the formula that says that a substitution is live.
 
-ghost use Rattle.std.specs.Prelude.{◌≡◌, ◌∷◌, [], IfOk, IfErr, None, map, if◌then◌else◌};
+ghost use Rattle.std.specs.Prelude.{◌≡◌, ◌∷◌, [], IfOk, IfErr, None, map, if◌then◌else◌, ◌&&◌, bytes_eq, codes};
 ghost use Rattle.cb_term.specs.Tree as tree;
 ghost use Rattle.cb_term.specs.declared.sign.TermSign.TheVariants as sign;
+ghost use Rattle.cb_term.specs.Same.{same};
 ghost use Rattle.cb_spec.specs.Domains as domains;
 ghost use Rattle.cb_spec.specs.SubstTree.{sides_of};
 ghost use Rattle.cb_obligations.specs.Branches.{numbered};
@@ -194,6 +195,14 @@ fn range(alloc: Global, lo: i64, hi: i64) -> Result<Term, Memory>
     Term::bin(alloc, TermSign::Range, Term::num(lo), Term::num(hi))
 }
 
+// Whether the ANY of this name and test is what `x :: D` stands for, if its body assigns.
+fn is_any_of(alloc: Global, name: &Name, domain: Domain, test: &Formula) -> Result<bool, Memory>
+    ensures { IfOk result (λ b. b ≡ bytes_eq name.now.text (codes "any") && same test.now (domains.typing (tree.Var name.now) domain)) }
+{
+    let conjunct = typing(alloc, Term::var(name.copy(alloc)?), domain)?;
+    Ok(name.text.as_slice() == b"any".as_slice() && equal(test, &conjunct))
+}
+
 // Whether this ANY is what `x :: D` stands for.
 fn is_choice(
     alloc: Global,
@@ -205,10 +214,7 @@ fn is_choice(
     ensures { IfOk result (λ b. b ≡ spec.is_choice name.now domain test.now body.now) }
 {
     match &body.node {
-        SubstNode::Assign { .. } => {
-            let conjunct = typing(alloc, Term::var(name.copy(alloc)?), domain)?;
-            Ok(name.text.as_slice() == b"any".as_slice() && equal(test, &conjunct))
-        }
+        SubstNode::Assign { .. } => is_any_of(alloc, name, domain, test),
         _ => Ok(false),
     }
 }
@@ -226,8 +232,8 @@ fn and_all(alloc: Global, formulas: Items<Formula>) -> Result<Formula, Memory>
     Ok(whole)
 }
 
-// `P => F`, over the bound names.
-fn where_it_holds(
+/// `P => F`, P over the bound names.
+pub fn where_it_holds(
     alloc: Global,
     bound: &[Name],
     test: &Formula,
