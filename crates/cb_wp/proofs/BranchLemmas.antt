@@ -8,7 +8,7 @@ use Rattle.cb_term.specs.declared.kind.Kind.{Kind}
 use Rattle.cb_term.specs.declared.kind.Domain.{Domain}
 use Rattle.cb_term.specs.Tree.{FormulaTree, Not}
 use Rattle.cb_spec.specs.Domains.{kind_of}
-use Rattle.cb_spec.specs.SubstTree.{SubstTree, Together, Choice, If, AnyOf, SubstTrees, End, More, sides_of}
+use Rattle.cb_spec.specs.SubstTree.{SubstTree, Together, If, AnyOf, SubstTrees, End, More, sides_of}
 use Rattle.cb_obligations.specs.Branches.{Item, Bind, Guard, Assigned, Branch, numbered, opened, binds, guarded, bound, joined, branches_from, branches_of_each}
 use Rattle.cb_wp.specs.Parts as begun
 use Rattle.cb_wp.specs.Parts.{branch_of, begun_of, after}
@@ -106,70 +106,56 @@ sides_follow c f (q ∷ qs) =
     ap₂ (λ xs ys. xs ++ ys) (followed_twice c q (f (c.0 + binds q.items))) (sides_follow c f qs)
     ∙ sym (both_follow c (map (joined q) (f (c.0 + binds q.items))) (flat_map (λ (q : Branch). map (joined q) (f (c.0 + binds q.items))) qs))
 
--- ---- the branches by cases
+-- ---- the branches by cases, behind those that are there before
 
-pub of_together : (scope : List Name) (s a b : SubstTree) (c : ℕ × Branch) (xs zs : List (ℕ × Branch)) → s ≡ Together a b →
-    xs ≡ after (λ k. branches_from k scope a) c → zs ≡ flat_map (after (λ k. branches_from k scope b)) xs → zs ≡ after (λ k. branches_from k scope s) c
-of_together scope s a b c xs zs is first all =
-    all ∙ ap (flat_map (after (λ k. branches_from k scope b))) first ∙ sides_follow c (λ k. branches_from k scope b) (branches_from c.0 scope a)
-    ∙ ap (λ s. after (λ k. branches_from k scope s) c) (sym is)
-
-pub of_choice : (scope : List Name) (s : SubstTree) (ss : SubstTrees) (c : ℕ × Branch) (zs : List (ℕ × Branch)) → s ≡ Choice ss →
-    zs ≡ after (λ k. branches_of_each k scope ss) c → zs ≡ after (λ k. branches_from k scope s) c
-of_choice scope s ss c zs is all = all ∙ ap (λ s. after (λ k. branches_from k scope s) c) (sym is)
+pub of_together : (scope : List Name) (a b : SubstTree) (c : ℕ × Branch) (firsts old new : List (ℕ × Branch)) →
+    firsts ≡ after (λ k. branches_from k scope a) c → new ≡ old ++ flat_map (after (λ k. branches_from k scope b)) firsts →
+    new ≡ old ++ after (λ k. branches_from k scope (Together a b)) c
+of_together scope a b c firsts old new is_firsts all =
+    all
+    ∙ ap (λ xs. old ++ flat_map (after (λ k. branches_from k scope b)) xs) is_firsts
+    ∙ ap (λ xs. old ++ xs) (sides_follow c (λ k. branches_from k scope b) (branches_from c.0 scope a))
 
 -- one side of a choice more
-of_sides : (scope : List Name) (s : SubstTree) (ss : SubstTrees) (c : ℕ × Branch) →
-    after (λ k. branches_of_each k scope (More s ss)) c ≡ after (λ k. branches_from k scope s) c ++ after (λ k. branches_of_each k scope ss) c
-of_sides scope s ss c = both_follow c (branches_from c.0 scope s) (branches_of_each c.0 scope ss)
+pub of_side : (scope : List Name) (s : SubstTree) (ss rest : SubstTrees) (c : ℕ × Branch) (all new whole : List (ℕ × Branch)) → ss ≡ More s rest →
+    new ≡ all ++ after (λ k. branches_from k scope s) c → all ++ after (λ k. branches_of_each k scope ss) c ≡ whole →
+    new ++ after (λ k. branches_of_each k scope rest) c ≡ whole
+of_side scope s ss rest c all new whole is is_new so_far =
+    let more : List (ℕ × Branch) = after (λ k. branches_from k scope s) c in
+    let left : List (ℕ × Branch) = after (λ k. branches_of_each k scope rest) c in
+    ap (λ xs. xs ++ left) is_new ∙ append_assoc all more left
+    ∙ ap (λ xs. all ++ xs) (sym (both_follow c (branches_from c.0 scope s) (branches_of_each c.0 scope rest)) ∙ ap (λ ss. after (λ k. branches_of_each k scope ss) c) (sym is))
+    ∙ so_far
 
-pub of_if : (scope : List Name) (s a b : SubstTree) (p : FormulaTree) (c d e : ℕ × Branch) (xs ys zs : List (ℕ × Branch)) → s ≡ If p a b →
+pub of_if : (scope : List Name) (a b : SubstTree) (p : FormulaTree) (c d e : ℕ × Branch) (old mid new : List (ℕ × Branch)) →
     d ≡ begun.guarded c (opened scope p) → e ≡ begun.guarded c (Not (opened scope p)) →
-    xs ≡ after (λ k. branches_from k scope a) d → ys ≡ after (λ k. branches_from k scope b) e → zs ≡ xs ++ ys → zs ≡ after (λ k. branches_from k scope s) c
-of_if scope s a b p c d e xs ys zs is is_d is_e first second all =
+    mid ≡ old ++ after (λ k. branches_from k scope a) d → new ≡ mid ++ after (λ k. branches_from k scope b) e →
+    new ≡ old ++ after (λ k. branches_from k scope (If p a b)) c
+of_if scope a b p c d e old mid new is_d is_e first second =
     let f : ℕ → List Branch = λ k. branches_from k scope a in
     let g : ℕ → List Branch = λ k. branches_from k scope b in
-    all
-    ∙ ap₂ (λ us vs. us ++ vs)
-    (first ∙ ap (after f) is_d ∙ guard_behind c (opened scope p) (f c.0))
-    (second ∙ ap (after g) is_e ∙ guard_behind c (Not (opened scope p)) (g c.0))
-    ∙ sym (both_follow c (map (guarded (opened scope p)) (f c.0)) (map (guarded (Not (opened scope p))) (g c.0)))
-    ∙ ap (λ s. after (λ k. branches_from k scope s) c) (sym is)
+    second
+    ∙ ap (λ xs. xs ++ after g e) first
+    ∙ append_assoc old (after f d) (after g e)
+    ∙ ap₂ (λ us vs. old ++ (us ++ vs))
+    (ap (after f) is_d ∙ guard_behind c (opened scope p) (f c.0))
+    (ap (after g) is_e ∙ guard_behind c (Not (opened scope p)) (g c.0))
+    ∙ ap (λ xs. old ++ xs) (sym (both_follow c (map (guarded (opened scope p)) (f c.0)) (map (guarded (Not (opened scope p))) (g c.0))))
 
-pub of_any : (scope inner : List Name) (s a : SubstTree) (z : Name) (domain : Domain) (p : FormulaTree) (n : ℕ) (c d : ℕ × Branch) (zs : List (ℕ × Branch)) →
-    s ≡ AnyOf z domain p a → n ≡ c.0 + 1 → inner ≡ numbered z n ∷ scope → d ≡ begun.bound c n z (kind_of domain) (opened inner p) →
-    zs ≡ after (λ k. branches_from k inner a) d → zs ≡ after (λ k. branches_from k scope s) c
-of_any scope inner s a z domain p n c d zs is is_n is_inner is_d all =
+pub of_any : (scope inner : List Name) (a : SubstTree) (z : Name) (domain : Domain) (p : FormulaTree) (n : ℕ) (c d : ℕ × Branch) (old new : List (ℕ × Branch)) →
+    n ≡ c.0 + 1 → inner ≡ numbered z n ∷ scope → d ≡ begun.bound c n z (kind_of domain) (opened inner p) →
+    new ≡ old ++ after (λ k. branches_from k inner a) d → new ≡ old ++ after (λ k. branches_from k scope (AnyOf z domain p a)) c
+of_any scope inner a z domain p n c d old new is_n is_inner is_d all =
     let here : ℕ → List Name = λ m. numbered z m ∷ scope in
     let f : List Name → ℕ → List Branch = λ xs k. branches_from k xs a in
     all
-    ∙ ap (after (f inner)) is_d
+    ∙ ap (λ xs. old ++ xs) (ap (after (f inner)) is_d
     ∙ ap (λ xs. after (f xs) (begun.bound c n z (kind_of domain) (opened xs p))) is_inner
     ∙ name_behind c n (numbered z n) (kind_of domain) (opened (here n) p) is_n (f (here n) n)
-    ∙ ap (λ m. follow c (map (bound (numbered z m) (kind_of domain) (opened (here m) p)) (f (here m) m))) is_n
-    ∙ ap (λ s. after (λ k. branches_from k scope s) c) (sym is)
-
-pub of_side : (scope : List Name) (s : SubstTree) (ss rest : SubstTrees) (c : ℕ × Branch) (all more new whole : List (ℕ × Branch)) → ss ≡ More s rest →
-    more ≡ after (λ k. branches_from k scope s) c → new ≡ all ++ more → all ++ after (λ k. branches_of_each k scope ss) c ≡ whole →
-    new ++ after (λ k. branches_of_each k scope rest) c ≡ whole
-of_side scope s ss rest c all more new whole is is_more is_new so_far =
-    let left : ℕ × Branch → List (ℕ × Branch) = after (λ k. branches_of_each k scope rest) in
-    ap (λ xs. xs ++ left c) is_new ∙ append_assoc all more (left c)
-    ∙ ap (λ xs. all ++ xs) (ap (λ xs. xs ++ left c) is_more ∙ sym (of_sides scope s rest c) ∙ ap (λ ss. after (λ k. branches_of_each k scope ss) c) (sym is))
-    ∙ so_far
-
-pub of_first : (each : ℕ × Branch → List (ℕ × Branch)) (x : ℕ × Branch) (left rest all more new whole : List (ℕ × Branch)) → left ≡ x ∷ rest → more ≡ each x →
-    new ≡ all ++ more → all ++ flat_map each left ≡ whole → new ++ flat_map each rest ≡ whole
-of_first each x left rest all more new whole is is_more is_new so_far =
-    ap (λ xs. xs ++ flat_map each rest) is_new ∙ append_assoc all more (flat_map each rest)
-    ∙ ap (λ xs. all ++ xs) (ap (λ xs. xs ++ flat_map each rest) is_more ∙ ap (flat_map each) (sym is))
-    ∙ so_far
+    ∙ ap (λ m. follow c (map (bound (numbered z m) (kind_of domain) (opened (here m) p)) (f (here m) m))) is_n)
 
 pub of_none : (each : ℕ × Branch → List (ℕ × Branch)) (left all whole : List (ℕ × Branch)) → left ≡ [] → all ++ flat_map each left ≡ whole → all ≡ whole
 of_none each left all whole is so_far = sym (append-nil all) ∙ ap (λ xs. all ++ flat_map each xs) (sym is) ∙ so_far
-
-pub all_appended : (new all more : List Begun) → new ≡ all ++ more → map begun_of new ≡ map begun_of all ++ map begun_of more
-all_appended new all more e = ap (map begun_of) e ∙ map_append begun_of all more
 
 pub nothing_left : (l : List Begun) → length l ≡ 0 → l ≡ []
 nothing_left [] h = refl

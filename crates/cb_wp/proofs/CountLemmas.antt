@@ -64,22 +64,20 @@ reach_passed hyps steps o n above = ap (λ (b : Bool). if b then Passed which.Se
 reach_on : (hyps : List FormulaTree) (steps : List Step) (o n : ℕ) → formulas_nodes hyps ≤ 20000 → count o n (Reach hyps ∷ steps) ≡ count o n steps
 reach_on hyps steps o n within = ap (λ (b : Bool). if b then Passed which.Sequent else count o n steps) (le-ltb 20000 (formulas_nodes hyps) within)
 
-pub implies_passed : (ys : List Name) (k : ℕ) (names : List (Name × Kind)) (hyps cs new : List FormulaTree) (f a b : FormulaTree) (before after o n : ℕ) → f ≡ Implies a b →
+pub implies_passed : (ys : List Name) (k : ℕ) (names : List (Name × Kind)) (hyps cs new : List FormulaTree) (a b : FormulaTree) (before after o n : ℕ) →
     cs ≡ conjuncts (with_opened ys a) → before ≡ min (formulas_nodes hyps) 18446744073709551615 →
     after ≡ min (before + formulas_nodes cs) 18446744073709551615 → new ≡ hyps ++ cs → 20000 < after →
-    count o n (steps_under ys k names hyps f) ≡ Passed which.Sequent
-implies_passed ys k names hyps cs new f a b before after o n is is_cs is_before is_after is_new above =
-    ap (λ g. count o n (steps_under ys k names hyps g)) is
-    ∙ ap (λ l. count o n (Reach l ∷ steps_under ys k names l b)) (ap (λ l. hyps ++ l) (sym is_cs) ∙ sym is_new)
+    count o n (steps_under ys k names hyps (Implies a b)) ≡ Passed which.Sequent
+implies_passed ys k names hyps cs new a b before after o n is_cs is_before is_after is_new above =
+    ap (λ l. count o n (Reach l ∷ steps_under ys k names l b)) (ap (λ l. hyps ++ l) (sym is_cs) ∙ sym is_new)
     ∙ reach_passed new (steps_under ys k names new b) o n (omega (arith, above, carried_on hyps cs new before after is_before is_after is_new))
 
-pub implies_on : (ys : List Name) (k : ℕ) (names : List (Name × Kind)) (hyps cs new : List FormulaTree) (f a b : FormulaTree) (before after o n : ℕ) → f ≡ Implies a b →
+pub implies_on : (ys : List Name) (k : ℕ) (names : List (Name × Kind)) (hyps cs new : List FormulaTree) (a b : FormulaTree) (before after o n : ℕ) →
     cs ≡ conjuncts (with_opened ys a) → before ≡ min (formulas_nodes hyps) 18446744073709551615 →
     after ≡ min (before + formulas_nodes cs) 18446744073709551615 → new ≡ hyps ++ cs → after ≤ 20000 →
-    count o n (steps_under ys k names hyps f) ≡ count o n (steps_under ys k names new b)
-implies_on ys k names hyps cs new f a b before after o n is is_cs is_before is_after is_new within =
-    ap (λ g. count o n (steps_under ys k names hyps g)) is
-    ∙ ap (λ l. count o n (Reach l ∷ steps_under ys k names l b)) (ap (λ l. hyps ++ l) (sym is_cs) ∙ sym is_new)
+    count o n (steps_under ys k names hyps (Implies a b)) ≡ count o n (steps_under ys k names new b)
+implies_on ys k names hyps cs new a b before after o n is_cs is_before is_after is_new within =
+    ap (λ l. count o n (Reach l ∷ steps_under ys k names l b)) (ap (λ l. hyps ++ l) (sym is_cs) ∙ sym is_new)
     ∙ reach_on new (steps_under ys k names new b) o n (omega (arith, within, carried_on hyps cs new before after is_before is_after is_new))
 
 -- ---- one element more of a list whose elements each have steps

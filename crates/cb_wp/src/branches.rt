@@ -1,16 +1,15 @@
 //! The branches of a substitution.
 
-ghost use Rattle.std.specs.Prelude.{◌≡◌, ◌++◌, ◌∷◌, [], min, IfOk, IfErr, None, map};
+ghost use Rattle.std.specs.Prelude.{◌≡◌, ◌++◌, ◌∷◌, [], min, IfOk, OnOk, map, flat_map};
 ghost use Rattle.cb_spec.specs.Domains as domains;
 ghost use Rattle.cb_obligations.specs.Counts as counts;
 ghost use Rattle.cb_obligations.specs.Branches as spec;
 ghost use Rattle.cb_spec.specs.SubstTree as subst;
+ghost use Rattle.cb_spec.specs.SubstTree.{sides_of};
 ghost use Rattle.cb_term.specs.Tree as tree;
 ghost use Rattle.cb_wp.specs.Parts.{item_of, branch_of, begun_of, after, guarded, bound};
-ghost use Rattle.cb_wp.specs.Limits.{Tells, branch_limit};
 
 use crate::changes::{Opened, next, put};
-use crate::limits::{MakeFault, Which};
 use cb_spec::subst::{Subst, SubstNode};
 use cb_term::Memory;
 use cb_term::change::{change_formula, change_term};
@@ -54,6 +53,44 @@ impl Item {
     }
 }
 
+fn copy_items(alloc: Global, items: &[Item]) -> Result<Items<Item>, Memory>
+    ensures { IfOk result (λ xs. xs ≡ items.now) }
+{
+    let mut copies = Items::new(alloc);
+    for item in items {
+        copies.push(item.copy(alloc)?)?;
+    }
+    Ok(copies)
+}
+
+fn copy_write(alloc: Global, write: &(Name, Term)) -> Result<(Name, Term), Memory>
+    ensures { IfOk result (λ x. x ≡ write.now) }
+{
+    let name = write.0.copy(alloc)?;
+    let value = write.1.copy(alloc)?;
+    Ok((name, value))
+}
+
+fn copy_writes(alloc: Global, writes: &[(Name, Term)]) -> Result<Items<(Name, Term)>, Memory>
+    ensures { IfOk result (λ xs. xs ≡ writes.now) }
+{
+    let mut copies = Items::new(alloc);
+    for write in writes {
+        copies.push(copy_write(alloc, write)?)?;
+    }
+    Ok(copies)
+}
+
+impl Branch {
+    fn copy(&self, alloc: Global) -> Result<Branch, Memory>
+        ensures { IfOk result (λ b. b ≡ self.now) }
+    {
+        let items = copy_items(alloc, self.items.as_slice())?;
+        let writes = copy_writes(alloc, self.writes.as_slice())?;
+        Ok(Branch { items, writes })
+    }
+}
+
 impl Begun {
     fn writing(self, target: Name, value: Term) -> Result<Begun, Memory>
         ensures { IfOk result (λ b. begun_of b ≡ (self.number, spec.joined (branch_of self.branch) (record { items = []; writes = (target, value) ∷ [] }))) }
@@ -72,29 +109,21 @@ impl Begun {
     }
 
     // The name is numbered by what is bound with it.
-    fn binding(self, name: Name, kind: Kind, guard: Formula) -> Result<Begun, Memory>
-        ensures { IfOk result (λ b. begun_of b ≡ (name.number, spec.joined (branch_of self.branch) (record { items = spec.Bind name kind ∷ spec.Guard guard ∷ []; writes = [] }))) }
+    fn binding(self, name: Name, kind: Kind) -> Result<Begun, Memory>
+        ensures { IfOk result (λ b. begun_of b ≡ (name.number, spec.joined (branch_of self.branch) (record { items = spec.Bind name kind ∷ []; writes = [] }))) }
     {
         let Begun { mut branch, .. } = self;
         let number = name.number;
         branch.items.push(Item::Bind(name, kind))?;
-        branch.items.push(Item::Guard(guard))?;
         Ok(Begun { branch, number })
     }
 
     fn copy(&self, alloc: Global) -> Result<Begun, Memory>
         ensures { IfOk result (λ b. b ≡ self.now) }
     {
-        let mut items = Items::new(alloc);
-        for item in self.branch.items.as_slice() {
-            items.push(item.copy(alloc)?)?;
-        }
-        let mut writes = Items::new(alloc);
-        for write in self.branch.writes.as_slice() {
-            writes.push((write.0.copy(alloc)?, write.1.copy(alloc)?))?;
-        }
+        let branch = self.branch.copy(alloc)?;
         Ok(Begun {
-            branch: Branch { items, writes },
+            branch,
             number: self.number,
         })
     }
@@ -154,27 +183,23 @@ fn opened_term(alloc: Global, term: &Term, scope: &[Name]) -> Result<Term, Memor
     change_term(alloc, term, &Opened { scope }, 0)
 }
 
+fn opened_write(
+    alloc: Global,
+    target: &Name,
+    value: &Term,
+    scope: &[Name],
+) -> Result<(Name, Term), Memory>
+    ensures { IfOk result (λ w. w ≡ (target.now, spec.opened_term scope.now value.now)) }
+{
+    let target = target.copy(alloc)?;
+    let value = opened_term(alloc, value, scope)?;
+    Ok((target, value))
+}
+
 fn opened_formula(alloc: Global, formula: &Formula, scope: &[Name]) -> Result<Formula, Memory>
     ensures { IfOk result (λ f. f ≡ spec.opened scope.now formula.now) }
 {
     change_formula(alloc, formula, &Opened { scope }, 0)
-}
-
-fn one(alloc: Global, begun: Begun) -> Result<Vec<Begun>, Memory>
-    ensures { IfOk result (λ bs. bs.items ≡ begun ∷ []) }
-{
-    let mut all = Vec::new(alloc);
-    put(&mut all, begun)?;
-    Ok(all)
-}
-
-fn joined(firsts: Vec<Begun>, seconds: Vec<Begun>) -> Result<Vec<Begun>, Memory>
-    ensures { IfOk result (λ bs. map begun_of bs.items ≡ map begun_of firsts.items ++ map begun_of seconds.items) }
-{
-    let mut all = firsts;
-    let mut more = seconds;
-    all.append(&mut more)?;
-    Ok(all)
 }
 
 /// The names with this one in front.
@@ -187,27 +212,6 @@ pub fn with_first(alloc: Global, name: Name, names: &[Name]) -> Result<Items<Nam
         all.push(other.copy(alloc)?)?;
     }
     Ok(all)
-}
-
-fn skip(alloc: Global, begun: Begun) -> Result<Vec<Begun>, Memory>
-    ensures { IfOk result (λ bs. map begun_of bs.items ≡ after (λ k. spec.branches_from k [] subst.Skip) (begun_of begun)) }
-{
-    one(alloc, begun)
-}
-
-fn assign(
-    alloc: Global,
-    target: &Name,
-    value: &Term,
-    begun: Begun,
-    scope: &[Name],
-) -> Result<Vec<Begun>, Memory>
-    ensures { IfOk result (λ bs. map begun_of bs.items ≡ after (λ k. spec.branches_from k scope.now (subst.Assign target.now value.now)) (begun_of begun)) }
-{
-    let target = target.copy(alloc)?;
-    let value = opened_term(alloc, value, scope)?;
-    let written = begun.writing(target, value)?;
-    one(alloc, written)
 }
 
 // With the test as a guard.
@@ -247,76 +251,148 @@ fn bound(
 ) -> Result<Begun, Memory>
     ensures { IfOk result (λ b. begun_of b ≡ bound (begun_of begun) number name.now (domains.kind_of domain) (spec.opened inner.now test.now)) }
 {
-    let guard = opened_formula(alloc, test, inner)?;
     let name = numbered(alloc, name, number)?;
-    begun.binding(name, kind_of(domain), guard)
+    let binding = begun.binding(name, kind_of(domain))?;
+    behind(alloc, binding, test, inner)
 }
 
-// The substitution's branches, each after what is begun. The innermost name of the scope is the first.
-fn branches_after(
+// Appends the substitution's branches, each after what is begun. The innermost name of the scope is the first.
+#[cycle(branches)]
+fn add_branches(
     alloc: Global,
     subst: &Subst,
     begun: Begun,
     scope: &[Name],
-) -> Result<Vec<Begun>, Memory>
-    ensures { IfOk result (λ bs. map begun_of bs.items ≡ after (λ k. spec.branches_from k scope.now subst.now) (begun_of begun)) }
+    into: &mut Vec<Begun>,
+) -> Result<(), Memory>
+    ensures { OnOk result (map begun_of into.new.items ≡ map begun_of into.old.items ++ after (λ k. spec.branches_from k scope.now subst.now) (begun_of begun)) }
 {
     match &subst.node {
-        SubstNode::Skip => skip(alloc, begun),
-        SubstNode::Assign { target, value } => assign(alloc, target, value, begun, scope),
-        SubstNode::Together(a, b) => {
-            let firsts = branches_after(alloc, a, begun, scope)?;
-            let mut all = Vec::new(alloc);
-            for first in firsts {
-                let mut more = branches_after(alloc, b, first, scope)?;
-                all.append(&mut more)?;
-            }
-            Ok(all)
+        SubstNode::Skip => add_skip(begun, into),
+        SubstNode::Assign { target, value } => {
+            add_assigned(alloc, target, value, begun, scope, into)
         }
-        SubstNode::Choice(sides) => {
-            let mut all = Vec::new(alloc);
-            for side in sides.as_slice() {
-                let copied = begun.copy(alloc)?;
-                let mut more = branches_after(alloc, side, copied, scope)?;
-                all.append(&mut more)?;
-            }
-            Ok(all)
-        }
+        SubstNode::Together(a, b) => add_together(alloc, a, b, begun, scope, into),
+        SubstNode::Choice(sides) => add_sides(alloc, sides.as_slice(), begun, scope, into),
         SubstNode::If { test, then, other } => {
-            let copied = begun.copy(alloc)?;
-            let first = behind(alloc, copied, test, scope)?;
-            let firsts = branches_after(alloc, then, first, scope)?;
-            let second = behind_not(alloc, begun, test, scope)?;
-            let seconds = branches_after(alloc, other, second, scope)?;
-            let all = joined(firsts, seconds)?;
-            Ok(all)
+            add_if(alloc, test, then, other, begun, scope, into)
         }
         SubstNode::AnyOf {
             name,
             domain,
             test,
             body,
-        } => {
-            let number = next(begun.number)?;
-            let inner = within(alloc, name, number, scope)?;
-            let inside = bound(alloc, name, *domain, test, begun, number, inner.as_slice())?;
-            let all = branches_after(alloc, body, inside, inner.as_slice())?;
-            Ok(all)
-        }
+        } => add_any(alloc, name, *domain, test, body, begun, scope, into),
     }
 }
 
-/// The branches of a substitution whose names are as written, in order. The j-th name that a branch binds has the number j,
-/// and so have its places in the branch. `Limit(Branches)` exactly where there are more than 256.
-pub fn branches(alloc: Global, subst: &Subst) -> Result<Items<Branch>, MakeFault>
-    ensures list { IfOk result (λ bs. map branch_of bs ≡ spec.branches subst.now) }
-    ensures within { IfOk result (λ bs. branch_limit subst.now ≡ None) }
-    ensures fault { IfErr result (λ e. Tells e (branch_limit subst.now)) }
+fn add_skip(begun: Begun, into: &mut Vec<Begun>) -> Result<(), Memory>
+    ensures { OnOk result (map begun_of into.new.items ≡ map begun_of into.old.items ++ after (λ k. spec.branches_from k [] subst.Skip) (begun_of begun)) }
 {
-    if branch_count(subst) > 256 {
-        return Err(MakeFault::Limit(Which::Branches));
+    put(into, begun)
+}
+
+fn add_assigned(
+    alloc: Global,
+    target: &Name,
+    value: &Term,
+    begun: Begun,
+    scope: &[Name],
+    into: &mut Vec<Begun>,
+) -> Result<(), Memory>
+    ensures { OnOk result (map begun_of into.new.items ≡ map begun_of into.old.items ++ after (λ k. spec.branches_from k scope.now (subst.Assign target.now value.now)) (begun_of begun)) }
+{
+    let (target, value) = opened_write(alloc, target, value, scope)?;
+    let written = begun.writing(target, value)?;
+    put(into, written)
+}
+
+#[cycle(branches)]
+fn add_together(
+    alloc: Global,
+    a: &Subst,
+    b: &Subst,
+    begun: Begun,
+    scope: &[Name],
+    into: &mut Vec<Begun>,
+) -> Result<(), Memory>
+    ensures { OnOk result (map begun_of into.new.items ≡ map begun_of into.old.items ++ after (λ k. spec.branches_from k scope.now (subst.Together a.now b.now)) (begun_of begun)) }
+{
+    let mut firsts = Vec::new(alloc);
+    add_branches(alloc, a, begun, scope, &mut firsts)?;
+    add_each(alloc, b, firsts, scope, into)
+}
+
+// Appends the substitution's branches after each of these.
+#[cycle(branches)]
+fn add_each(
+    alloc: Global,
+    subst: &Subst,
+    firsts: Vec<Begun>,
+    scope: &[Name],
+    into: &mut Vec<Begun>,
+) -> Result<(), Memory>
+    ensures { OnOk result (map begun_of into.new.items ≡ map begun_of into.old.items ++ flat_map (after (λ k. spec.branches_from k scope.now subst.now)) (map begun_of firsts.items)) }
+{
+    for first in firsts {
+        add_branches(alloc, subst, first, scope, into)?;
     }
-    Ok(all_branches(alloc, subst)?)
+    Ok(())
+}
+
+#[cycle(branches)]
+fn add_sides(
+    alloc: Global,
+    sides: &[Subst],
+    begun: Begun,
+    scope: &[Name],
+    into: &mut Vec<Begun>,
+) -> Result<(), Memory>
+    ensures { OnOk result (map begun_of into.new.items ≡ map begun_of into.old.items ++ after (λ k. spec.branches_of_each k scope.now (sides_of sides.now)) (begun_of begun)) }
+{
+    for side in sides {
+        let copied = begun.copy(alloc)?;
+        add_branches(alloc, side, copied, scope, into)?;
+    }
+    Ok(())
+}
+
+#[cycle(branches)]
+fn add_if(
+    alloc: Global,
+    test: &Formula,
+    side: &Subst,
+    other: &Subst,
+    begun: Begun,
+    scope: &[Name],
+    into: &mut Vec<Begun>,
+) -> Result<(), Memory>
+    ensures { OnOk result (map begun_of into.new.items ≡ map begun_of into.old.items ++ after (λ k. spec.branches_from k scope.now (subst.If test.now side.now other.now)) (begun_of begun)) }
+{
+    let copied = begun.copy(alloc)?;
+    let first = behind(alloc, copied, test, scope)?;
+    add_branches(alloc, side, first, scope, into)?;
+    let second = behind_not(alloc, begun, test, scope)?;
+    add_branches(alloc, other, second, scope, into)
+}
+
+#[cycle(branches)]
+fn add_any(
+    alloc: Global,
+    name: &Name,
+    domain: Domain,
+    test: &Formula,
+    body: &Subst,
+    begun: Begun,
+    scope: &[Name],
+    into: &mut Vec<Begun>,
+) -> Result<(), Memory>
+    ensures { OnOk result (map begun_of into.new.items ≡ map begun_of into.old.items ++ after (λ k. spec.branches_from k scope.now (subst.AnyOf name.now domain test.now body.now)) (begun_of begun)) }
+{
+    let number = next(begun.number)?;
+    let inner = within(alloc, name, number, scope)?;
+    let inside = bound(alloc, name, domain, test, begun, number, inner.as_slice())?;
+    add_branches(alloc, body, inside, inner.as_slice(), into)
 }
 
 fn begin(alloc: Global) -> Begun
@@ -331,14 +407,14 @@ fn begin(alloc: Global) -> Begun
     }
 }
 
-/// What `branches` gives, however many they are.
+/// The branches of a substitution whose names are as written, in order, however many they are. The j-th name that a branch binds
+/// has the number j, and so have its places in the branch.
 pub fn all_branches(alloc: Global, subst: &Subst) -> Result<Items<Branch>, Memory>
     ensures { IfOk result (λ bs. map branch_of bs ≡ spec.branches subst.now) }
 {
-    let begun = begin(alloc);
-    let made = branches_after(alloc, subst, begun, &[])?;
-    let all = without_numbers(alloc, made)?;
-    Ok(all)
+    let mut made = Vec::new(alloc);
+    add_branches(alloc, subst, begin(alloc), &[], &mut made)?;
+    without_numbers(alloc, made)
 }
 
 fn without_numbers(alloc: Global, begun: Vec<Begun>) -> Result<Items<Branch>, Memory>

@@ -2,6 +2,7 @@
 
 ghost use Rattle.std.specs.Prelude.{◌≡◌, ◌++◌, ◌∷◌, [], true, IfOk, OnOk, IfErr, None, Some, map, flat_map};
 ghost use Rattle.cb_term.specs.Tree as tree;
+ghost use Rattle.cb_spec.specs.Domains as domains;
 ghost use Rattle.cb_seq.specs.Validity.{claim_of};
 ghost use Rattle.cb_seq.specs.declared.sequent.Group.TheVariants as group;
 ghost use Rattle.cb_obligations.specs.Transform as transform;
@@ -16,7 +17,7 @@ use crate::branches::{branch_count, kind_of, with_first};
 use crate::changes::put;
 use crate::limits::{MakeFault, Used, Which};
 use crate::pieces::pieces_after;
-use crate::transform::{closed_over, live, transformed};
+use crate::transform::{closed_over, live, transformed, where_it_holds};
 use cb_seq::sequent::{Group, ObName, Obligation, Sequent};
 use cb_spec::system::{Declared, Machine, Operation};
 use cb_term::Memory;
@@ -63,9 +64,8 @@ fn under_precondition(
 ) -> Result<Formula, Memory>
     ensures { IfOk result (λ f. f ≡ transform.closed_over bound.now (tree.Implies pre.now formula.now)) }
 {
-    let pre = closed_over(alloc, bound, pre)?;
     let inside = closed_over(alloc, bound, formula)?;
-    Formula::implies(alloc, pre, inside)
+    where_it_holds(alloc, bound, pre, inside)
 }
 
 // `P => F` for all values of the parameters. `bound` are the names bound around it, the innermost first.
@@ -83,8 +83,15 @@ fn for_all(
     };
     let inner = with_first(alloc, first.name.copy(alloc)?, bound)?;
     let body = for_all(alloc, inner.as_slice(), rest, pre, formula)?;
-    let name = first.name.copy(alloc)?;
-    Formula::every(alloc, name, kind_of(first.domain), body)
+    for_each(alloc, first, body)
+}
+
+// `!x.(F)`, x being the declared name.
+fn for_each(alloc: Global, declared: &Declared, body: Formula) -> Result<Formula, Memory>
+    ensures { IfOk result (λ f. f ≡ tree.Every declared.now.name (domains.kind_of declared.now.domain) body) }
+{
+    let name = declared.name.copy(alloc)?;
+    Formula::every(alloc, name, kind_of(declared.domain), body)
 }
 
 // That under the invariant the formula holds for all parameters that the operation's precondition allows.
@@ -102,21 +109,41 @@ fn of_operation(
     Formula::implies(alloc, invariant, inside)
 }
 
+fn copy_part(alloc: Global, part: &Option<Name>) -> Result<Option<Name>, Memory>
+    ensures { IfOk result (λ p. p ≡ part.now) }
+{
+    match part {
+        Some(name) => Ok(Some(name.copy(alloc)?)),
+        None => Ok(None),
+    }
+}
+
 // The name of the group's obligation with that number.
 fn numbered(alloc: Global, first: &ObName, number: u64) -> Result<ObName, Memory>
     ensures { IfOk result (λ x. x ≡ record { group = first.now.group; owner = first.now.owner; part = first.now.part; number = number }) }
 {
     let owner = first.owner.copy(alloc)?;
-    let part = match &first.part {
-        Some(part) => Some(part.copy(alloc)?),
-        None => None,
-    };
+    let part = copy_part(alloc, &first.part)?;
     Ok(ObName {
         group: first.group,
         owner,
         part,
         number,
     })
+}
+
+// Appends the sequent as the group's obligation with that number.
+fn put_named(
+    alloc: Global,
+    first: &ObName,
+    number: u64,
+    sequent: Sequent,
+    into: &mut Vec<Obligation>,
+) -> Result<(), Memory>
+    ensures { OnOk result (map owed_of into.new.items ≡ map owed_of into.old.items ++ named first.now.group first.now.owner first.now.part number (claim_of sequent ∷ [])) }
+{
+    let name = numbered(alloc, first, number)?;
+    put(into, Obligation { name, sequent })
 }
 
 // Appends the sequents as the obligations of the group, counted from 1.
@@ -130,31 +157,9 @@ fn add_named(
 {
     let mut number = 1u64;
     for sequent in sequents {
-        let name = numbered(alloc, first, number)?;
-        put(into, Obligation { name, sequent })?;
+        put_named(alloc, first, number, sequent, into)?;
         number = number.checked_add(1).ok_or(AllocError)?;
     }
-    Ok(())
-}
-
-#[tactic(auto, unfolding(crate::specs::Limits::formula_steps))]
-// Appends the formula's pieces as the obligations of the group.
-fn add_group(
-    alloc: Global,
-    machine: &Machine,
-    names: &[(Name, Kind)],
-    formula: &Formula,
-    first: &ObName,
-    used: &mut Used,
-    into: &mut Vec<Obligation>,
-) -> Result<(), MakeFault>
-    requires { names.now ≡ owed.with_kinds machine.now.variables }
-    ensures counted { OnOk result (Counted used.old used.new (formula_steps machine.now formula.now)) }
-    ensures list { OnOk result (map owed_of into.new.items ≡ map owed_of into.old.items ++ named first.now.group first.now.owner first.now.part 1 (owed.pieces_of machine.now formula.now)) }
-    ensures fault { IfErr result (λ e. Faulted e used.old (formula_steps machine.now formula.now)) }
-{
-    let sequents = pieces_after(alloc, names, &[], 0, formula, used)?;
-    add_named(alloc, first, sequents, into)?;
     Ok(())
 }
 
@@ -176,6 +181,42 @@ fn first_name(
     })
 }
 
+fn pieces_of(
+    alloc: Global,
+    names: &[(Name, Kind)],
+    formula: Formula,
+    used: &mut Used,
+) -> Result<Vec<Sequent>, MakeFault>
+    ensures counted { OnOk result (Counted used.old used.new (steps_under [] 0 names.now [] formula)) }
+    ensures list { IfOk result (λ v. map claim_of v.items ≡ pieces.pieces names.now [] 0 formula) }
+    ensures fault { IfErr result (λ e. Faulted e used.old (steps_under [] 0 names.now [] formula)) }
+{
+    pieces_after(alloc, names, &[], 0, &formula, used)
+}
+
+#[tactic(auto, unfolding(crate::specs::Limits::formula_steps))]
+// Appends the formula's pieces as the obligations of the group.
+fn add_group(
+    alloc: Global,
+    machine: &Machine,
+    names: &[(Name, Kind)],
+    formula: Formula,
+    group: Group,
+    part: Option<Name>,
+    used: &mut Used,
+    into: &mut Vec<Obligation>,
+) -> Result<(), MakeFault>
+    requires { names.now ≡ owed.with_kinds machine.now.variables }
+    ensures counted { OnOk result (Counted used.old used.new (formula_steps machine.now formula)) }
+    ensures list { OnOk result (map owed_of into.new.items ≡ map owed_of into.old.items ++ named group machine.now.name part 1 (owed.pieces_of machine.now formula)) }
+    ensures fault { IfErr result (λ e. Faulted e used.old (formula_steps machine.now formula)) }
+{
+    let sequents = pieces_of(alloc, names, formula, used)?;
+    let first = first_name(alloc, group, machine, part)?;
+    add_named(alloc, &first, sequents, into)?;
+    Ok(())
+}
+
 // That the initialisation makes the invariant true.
 fn add_init(
     alloc: Global,
@@ -190,8 +231,16 @@ fn add_init(
     ensures fault { IfErr result (λ e. Faulted e used.old (formula_steps machine.now (transform.transformed machine.now.init machine.now.invariant))) }
 {
     let formula = transformed(alloc, &machine.init, &machine.invariant)?;
-    let first = first_name(alloc, Group::Init, machine, None)?;
-    add_group(alloc, machine, names, &formula, &first, used, into)
+    add_group(
+        alloc,
+        machine,
+        names,
+        formula,
+        Group::Init,
+        None,
+        used,
+        into,
+    )
 }
 
 // That the initialisation has a run.
@@ -208,8 +257,16 @@ fn add_init_live(
     ensures fault { IfErr result (λ e. Faulted e used.old (formula_steps machine.now (transform.live machine.now.init))) }
 {
     let formula = live(alloc, &machine.init)?;
-    let first = first_name(alloc, Group::Live, machine, None)?;
-    add_group(alloc, machine, names, &formula, &first, used, into)
+    add_group(
+        alloc,
+        machine,
+        names,
+        formula,
+        Group::Live,
+        None,
+        used,
+        into,
+    )
 }
 
 // That under the invariant and the precondition the formula holds, in the operation's group.
@@ -228,10 +285,9 @@ fn add_of_operation(
     ensures list { OnOk result (map owed_of into.new.items ≡ map owed_of into.old.items ++ named group machine.now.name (Some operation.now.name) 1 (owed.pieces_of machine.now (owed.of_operation machine.now.invariant operation.now formula.now))) }
     ensures fault { IfErr result (λ e. Faulted e used.old (formula_steps machine.now (owed.of_operation machine.now.invariant operation.now formula.now))) }
 {
-    let whole = of_operation(alloc, &machine.invariant, operation, formula)?;
     let part = operation.name.copy(alloc)?;
-    let first = first_name(alloc, group, machine, Some(part))?;
-    add_group(alloc, machine, names, &whole, &first, used, into)
+    let whole = of_operation(alloc, &machine.invariant, operation, formula)?;
+    add_group(alloc, machine, names, whole, group, Some(part), used, into)
 }
 
 // That the operation keeps the invariant.

@@ -29,7 +29,8 @@ pub fn copy_names(alloc: Global, names: &[(Name, Kind)]) -> Result<Vec<(Name, Ki
 {
     let mut copies = Vec::new(alloc);
     for named in names {
-        put(&mut copies, (named.0.copy(alloc)?, named.1))?;
+        let name = named.0.copy(alloc)?;
+        put(&mut copies, (name, named.1))?;
     }
     Ok(copies)
 }
@@ -91,6 +92,67 @@ pub fn add_conjuncts(
     }
 }
 
+/// The same names and formulas again.
+pub fn copy_around(
+    alloc: Global,
+    names: &[(Name, Kind)],
+    hypotheses: &[Formula],
+) -> Result<(Vec<(Name, Kind)>, Vec<Formula>), Memory>
+    ensures names { IfOk result (λ c. c.0.items ≡ names.now) }
+    ensures hypotheses { IfOk result (λ c. c.1.items ≡ hypotheses.now) }
+{
+    let names = copy_names(alloc, names)?;
+    let hypotheses = copy_formulas(alloc, hypotheses)?;
+    Ok((names, hypotheses))
+}
+
+fn put_sequent(
+    alloc: Global,
+    names: &[(Name, Kind)],
+    hypotheses: &[Formula],
+    goal: Formula,
+    into: &mut Vec<Sequent>,
+) -> Result<(), Memory>
+    ensures { OnOk result (map claim_of into.new.items ≡ map claim_of into.old.items ++ claim names.now hypotheses.now goal ∷ []) }
+{
+    let (names, hypotheses) = copy_around(alloc, names, hypotheses)?;
+    put(
+        into,
+        Sequent {
+            names,
+            hypotheses,
+            goal,
+        },
+    )
+}
+
+// Counts the sequent, whose names don't count, or says which limit is passed.
+fn count_sequent(
+    hypotheses: &[Formula],
+    carried: u64,
+    goal: &Formula,
+    used: &mut Used,
+) -> Result<(), MakeFault>
+    requires { carried ≡ min (formulas_nodes hypotheses.now) (2 ^ 64 - 1) }
+    ensures counted { OnOk result (Counted used.old used.new (Make (claim [] hypotheses.now goal.now) ∷ [])) }
+    ensures fault { IfErr result (λ e. Faulted e used.old (Make (claim [] hypotheses.now goal.now) ∷ [])) }
+{
+    if used.obligations >= 4096 {
+        return Err(MakeFault::Limit(Which::Obligations));
+    }
+    let size = carried.saturating_add(nodes(goal));
+    if size > 20_000 {
+        return Err(MakeFault::Limit(Which::Sequent));
+    }
+    let total = used.nodes.saturating_add(size);
+    if total > 4_000_000 {
+        return Err(MakeFault::Limit(Which::Nodes));
+    }
+    used.obligations += 1;
+    used.nodes = total;
+    Ok(())
+}
+
 /// Appends the sequent, or says which limit is passed. `carried` are the nodes of the hypotheses.
 pub fn add_sequent(
     alloc: Global,
@@ -106,24 +168,7 @@ pub fn add_sequent(
     ensures list { OnOk result (map claim_of into.new.items ≡ map claim_of into.old.items ++ claim names.now hypotheses.now goal ∷ []) }
     ensures fault { IfErr result (λ e. Faulted e used.old (Make (claim names.now hypotheses.now goal) ∷ [])) }
 {
-    if used.obligations >= 4096 {
-        return Err(MakeFault::Limit(Which::Obligations));
-    }
-    let size = carried.saturating_add(nodes(&goal));
-    if size > 20_000 {
-        return Err(MakeFault::Limit(Which::Sequent));
-    }
-    let total = used.nodes.saturating_add(size);
-    if total > 4_000_000 {
-        return Err(MakeFault::Limit(Which::Nodes));
-    }
-    let sequent = Sequent {
-        names: copy_names(alloc, names)?,
-        hypotheses: copy_formulas(alloc, hypotheses)?,
-        goal,
-    };
-    put(into, sequent)?;
-    used.obligations += 1;
-    used.nodes = total;
+    count_sequent(hypotheses, carried, &goal, used)?;
+    put_sequent(alloc, names, hypotheses, goal, into)?;
     Ok(())
 }

@@ -1,8 +1,9 @@
 //! What must hold before for a formula to hold after, and the formula that says that a substitution is live.
 
-ghost use Rattle.std.specs.Prelude.{◌≡◌, ◌∷◌, [], IfOk, IfErr, None, map, if◌then◌else◌};
+ghost use Rattle.std.specs.Prelude.{◌≡◌, ◌∷◌, [], IfOk, IfErr, None, map, if◌then◌else◌, ◌&&◌, bytes_eq, codes};
 ghost use Rattle.cb_term.specs.Tree as tree;
 ghost use Rattle.cb_term.specs.declared.sign.TermSign.TheVariants as sign;
+ghost use Rattle.cb_term.specs.Same.{same};
 ghost use Rattle.cb_spec.specs.Domains as domains;
 ghost use Rattle.cb_spec.specs.SubstTree.{sides_of};
 ghost use Rattle.cb_obligations.specs.Branches.{numbered};
@@ -40,6 +41,7 @@ fn unnumbered(alloc: Global, name: &Name) -> Result<Name, Memory>
     Ok(Name { text, number: 0 })
 }
 
+#[cycle(branch_formula)]
 fn branch_formula(
     alloc: Global,
     bound: &[Name],
@@ -53,17 +55,63 @@ fn branch_formula(
         return change_formula(alloc, formula, &Assigned { bound, writes }, 0);
     };
     match first {
-        Item::Bind(name, kind) => {
-            let inner = with_first(alloc, name.copy(alloc)?, bound)?;
-            let body = branch_formula(alloc, inner.as_slice(), rest, writes, formula)?;
-            Formula::every(alloc, unnumbered(alloc, name)?, *kind, body)
-        }
-        Item::Guard(guard) => {
-            let guard = closed_over(alloc, bound, guard)?;
-            let body = branch_formula(alloc, bound, rest, writes, formula)?;
-            Formula::implies(alloc, guard, body)
-        }
+        Item::Bind(name, kind) => bound_formula(alloc, bound, name, *kind, rest, writes, formula),
+        Item::Guard(guard) => guarded_formula(alloc, bound, guard, rest, writes, formula),
     }
+}
+
+#[cycle(branch_formula)]
+fn bound_formula(
+    alloc: Global,
+    bound: &[Name],
+    name: &Name,
+    kind: Kind,
+    rest: &[Item],
+    writes: &[(Name, Term)],
+    formula: &Formula,
+) -> Result<Formula, Memory>
+    ensures { IfOk result (λ f. f ≡ tree.Every (numbered name.now 0) kind (spec.branch_formula (name.now ∷ bound.now) (map item_of rest.now) writes.now formula.now)) }
+{
+    let inner = with_first(alloc, name.copy(alloc)?, bound)?;
+    let body = branch_formula(alloc, inner.as_slice(), rest, writes, formula)?;
+    each_unnumbered(alloc, name, kind, body)
+}
+
+#[cycle(branch_formula)]
+fn guarded_formula(
+    alloc: Global,
+    bound: &[Name],
+    guard: &Formula,
+    rest: &[Item],
+    writes: &[(Name, Term)],
+    formula: &Formula,
+) -> Result<Formula, Memory>
+    ensures { IfOk result (λ f. f ≡ tree.Implies (spec.closed_over bound.now guard.now) (spec.branch_formula bound.now (map item_of rest.now) writes.now formula.now)) }
+{
+    let body = branch_formula(alloc, bound, rest, writes, formula)?;
+    where_it_holds(alloc, bound, guard, body)
+}
+
+// `!x.(F)`, x being the name as written.
+fn each_unnumbered(alloc: Global, name: &Name, kind: Kind, body: Formula) -> Result<Formula, Memory>
+    ensures { IfOk result (λ f. f ≡ tree.Every (numbered name.now 0) kind body) }
+{
+    let name = unnumbered(alloc, name)?;
+    Formula::every(alloc, name, kind, body)
+}
+
+// The conjunction with the branch's formula at its end.
+fn and_branch(
+    alloc: Global,
+    whole: Formula,
+    branch: &Branch,
+    formula: &Formula,
+) -> Result<Formula, Memory>
+    ensures { IfOk result (λ f. f ≡ tree.And whole (spec.branch_formula [] (branch_of branch.now).items (branch_of branch.now).writes formula.now)) }
+{
+    let items = branch.items.as_slice();
+    let next = branch_formula(alloc, &[], items, branch.writes.as_slice(), formula)?;
+    Formula::and(alloc, whole, next)
 }
 
 fn and_branches(
@@ -76,9 +124,7 @@ fn and_branches(
 {
     let mut whole = begun;
     for branch in branches {
-        let items = branch.items.as_slice();
-        let next = branch_formula(alloc, &[], items, branch.writes.as_slice(), formula)?;
-        whole = Formula::and(alloc, whole, next)?;
+        whole = and_branch(alloc, whole, branch, formula)?;
     }
     Ok(whole)
 }
@@ -122,22 +168,39 @@ pub fn typing(alloc: Global, term: Term, domain: Domain) -> Result<Formula, Memo
     ensures { IfOk result (λ f. f ≡ domains.typing term domain) }
 {
     match domain {
-        Domain::Range { lo, hi } => Ok(Formula::rel(RelSign::Member, term, range(alloc, lo, hi)?)),
+        Domain::Range { lo, hi } => in_range(alloc, RelSign::Member, term, lo, hi),
         Domain::Truth => Ok(Formula::rel(RelSign::Member, term, Term::truths())),
         Domain::Elems(set) => Ok(Formula::rel(RelSign::Member, term, Term::elems(set))),
-        Domain::Subsets { lo, hi } => Ok(Formula::rel(
-            RelSign::Subset,
-            term,
-            range(alloc, lo, hi)?,
-        )),
+        Domain::Subsets { lo, hi } => in_range(alloc, RelSign::Subset, term, lo, hi),
         Domain::ElemSubsets(set) => Ok(Formula::rel(RelSign::Subset, term, Term::elems(set))),
     }
+}
+
+fn in_range(
+    alloc: Global,
+    relation: RelSign,
+    term: Term,
+    lo: i64,
+    hi: i64,
+) -> Result<Formula, Memory>
+    ensures { IfOk result (λ f. f ≡ tree.Rel relation term (tree.Bin sign.Range (tree.Num lo) (tree.Num hi))) }
+{
+    let range = range(alloc, lo, hi)?;
+    Ok(Formula::rel(relation, term, range))
 }
 
 fn range(alloc: Global, lo: i64, hi: i64) -> Result<Term, Memory>
     ensures { IfOk result (λ t. t ≡ tree.Bin sign.Range (tree.Num lo) (tree.Num hi)) }
 {
     Term::bin(alloc, TermSign::Range, Term::num(lo), Term::num(hi))
+}
+
+// Whether the ANY of this name and test is what `x :: D` stands for, if its body assigns.
+fn is_any_of(alloc: Global, name: &Name, domain: Domain, test: &Formula) -> Result<bool, Memory>
+    ensures { IfOk result (λ b. b ≡ bytes_eq name.now.text (codes "any") && same test.now (domains.typing (tree.Var name.now) domain)) }
+{
+    let conjunct = typing(alloc, Term::var(name.copy(alloc)?), domain)?;
+    Ok(name.text.as_slice() == b"any".as_slice() && equal(test, &conjunct))
 }
 
 // Whether this ANY is what `x :: D` stands for.
@@ -151,10 +214,7 @@ fn is_choice(
     ensures { IfOk result (λ b. b ≡ spec.is_choice name.now domain test.now body.now) }
 {
     match &body.node {
-        SubstNode::Assign { .. } => {
-            let conjunct = typing(alloc, Term::var(name.copy(alloc)?), domain)?;
-            Ok(name.text.as_slice() == b"any".as_slice() && equal(test, &conjunct))
-        }
+        SubstNode::Assign { .. } => is_any_of(alloc, name, domain, test),
         _ => Ok(false),
     }
 }
@@ -172,8 +232,8 @@ fn and_all(alloc: Global, formulas: Items<Formula>) -> Result<Formula, Memory>
     Ok(whole)
 }
 
-// `P => F`, over the bound names.
-fn where_it_holds(
+/// `P => F`, P over the bound names.
+pub fn where_it_holds(
     alloc: Global,
     bound: &[Name],
     test: &Formula,
