@@ -1,6 +1,6 @@
 //! The branches of a substitution.
 
-ghost use Rattle.std.specs.Prelude.{◌≡◌, ◌++◌, ◌∷◌, [], min, IfOk, OnOk, map, flat_map};
+ghost use Rattle.std.specs.Prelude.{◌≡◌, ◌++◌, ◌∷◌, [], min, IfOk, IfErr, OnOk, None, map, flat_map};
 ghost use Rattle.cb_spec.specs.Domains as domains;
 ghost use Rattle.cb_obligations.specs.Counts as counts;
 ghost use Rattle.cb_obligations.specs.Branches as spec;
@@ -8,8 +8,10 @@ ghost use Rattle.cb_spec.specs.SubstTree as subst;
 ghost use Rattle.cb_spec.specs.SubstTree.{sides_of};
 ghost use Rattle.cb_term.specs.Tree as tree;
 ghost use Rattle.cb_wp.specs.Parts.{item_of, branch_of, begun_of, after, guarded, bound};
+ghost use Rattle.cb_wp.specs.Limits.{Tells, branch_limit};
 
 use crate::changes::{Opened, next, put};
+use crate::limits::{MakeFault, Which};
 use cb_spec::subst::{Subst, SubstNode};
 use cb_term::Memory;
 use cb_term::change::{change_formula, change_term};
@@ -407,8 +409,20 @@ fn begin(alloc: Global) -> Begun
     }
 }
 
-/// The branches of a substitution whose names are as written, in order, however many they are. The j-th name that a branch binds
-/// has the number j, and so have its places in the branch.
+/// The branches of a substitution whose names are as written, in order. The j-th name that a branch binds has the number j,
+/// and so have its places in the branch. `Limit(Branches)` exactly where there are more than 256.
+pub fn branches(alloc: Global, subst: &Subst) -> Result<Items<Branch>, MakeFault>
+    ensures list { IfOk result (λ bs. map branch_of bs ≡ spec.branches subst.now) }
+    ensures within { IfOk result (λ bs. branch_limit subst.now ≡ None) }
+    ensures fault { IfErr result (λ e. Tells e (branch_limit subst.now)) }
+{
+    if branch_count(subst) > 256 {
+        return Err(MakeFault::Limit(Which::Branches));
+    }
+    Ok(all_branches(alloc, subst)?)
+}
+
+/// What `branches` gives, however many they are.
 pub fn all_branches(alloc: Global, subst: &Subst) -> Result<Items<Branch>, Memory>
     ensures { IfOk result (λ bs. map branch_of bs ≡ spec.branches subst.now) }
 {
