@@ -1,6 +1,6 @@
 use Rattle.std.proofs.Common.{refl}
 use Rattle.cb_verdicts.specs.Proofs.{keys_of}
-use Rattle.cb_top.specs.Outcome.{Answer, wrong_proof, right_proofs}
+use Rattle.cb_top.specs.Outcome.{wrong_proof, right_proofs}
 use Rattle.cb_top.proofs.Wrongs.{wrong_told, both}
 use Rattle.cb_top.proofs.judge.listing.Goals as goal
 
