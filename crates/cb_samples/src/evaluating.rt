@@ -23,11 +23,8 @@ fn every_number(alloc: Global, last: i64) -> Result<Formula, Memory>
     let typing = Formula::rel(RelSign::Member, Term::bound(0), range);
     let bounded = Formula::rel(RelSign::AtMost, Term::bound(0), Term::num(last));
     let body = Formula::implies(alloc, typing, bounded)?;
-    let name = Name {
-        text: NameText::from_vec(Vec::new(alloc)),
-        number: 0,
-    };
-    Formula::every(alloc, name, Kind::Integer, body)
+    let text = NameText::from_vec(Vec::new(alloc));
+    Formula::every(alloc, Name { text, number: 0 }, Kind::Integer, body)
 }
 
 fn no_sets(alloc: Global) -> SetTable
@@ -42,16 +39,16 @@ fn every_number_holds(alloc: Global, last: i64) -> Result<bool, Memory>
     requires low { neg_ℤ (pos (2 ^ 62)) ≤ℤ last }
     requires high { last ≤ℤ pos (2 ^ 62) }
 {
+    let formula = every_number(alloc, last)?;
     let sets = no_sets(alloc);
     let store = Store::new(alloc);
-    let formula = every_number(alloc, last)?;
     truth_of(alloc, &sets, &formula, &store)
 }
 
 fn two_and_three(alloc: Global) -> Result<Value, Memory> {
+    let sum = Term::bin(alloc, TermSign::Add, Term::num(2), Term::num(3))?;
     let sets = no_sets(alloc);
     let store = Store::new(alloc);
-    let sum = Term::bin(alloc, TermSign::Add, Term::num(2), Term::num(3))?;
     value_of(alloc, &sets, &sum, &store)
 }
 

@@ -1,9 +1,11 @@
 //! Runs of small substitutions from the empty store, and the first numbers of some streams.
 
-ghost use Rattle.std.specs.Prelude.{◌≡◌, ◌≤ℤ◌, pos, [], IfOk};
+ghost use Rattle.std.specs.Prelude.{◌≡◌, ◌≤ℤ◌, pos, [], ◌∷◌, ◌++◌, IfOk};
 ghost use Rattle.cb_spec.specs.Stores.{empty};
-ghost use Rattle.cb_term.specs.Tree.{Var};
-ghost use Rattle.cb_spec.specs.SubstTree.{Assign, AnyOf};
+ghost use Rattle.cb_term.specs.declared.sign.RelSign.TheVariants.{Equal};
+ghost use Rattle.cb_term.specs.declared.sign.TermSign.TheVariants.{Range};
+ghost use Rattle.cb_term.specs.Tree.{Var, Num, Bin, Rel};
+ghost use Rattle.cb_spec.specs.SubstTree.{Assign, AnyOf, Choice, sides_of};
 ghost use Rattle.cb_spec.specs.Example as letters;
 ghost use Rattle.cb_samples.specs.Performed as example;
 ghost use Rattle.cb_relation.specs.Performing.{CanRun};
@@ -49,11 +51,17 @@ fn assign(alloc: Global, target: u8, value: Term) -> Result<Subst, Memory>
     })
 }
 
-fn either(alloc: Global, first: Subst, second: Subst) -> Result<Subst, Memory>
-    ensures { IfOk result (λ s. s ≡ example.either first second) }
+fn one_side(alloc: Global, side: Subst) -> Result<Items<Subst>, Memory>
+    ensures { IfOk result (λ sides. sides ≡ side ∷ []) }
 {
     let mut sides = Items::new(alloc);
-    sides.push(first)?;
+    sides.push(side)?;
+    Ok(sides)
+}
+
+fn either(mut sides: Items<Subst>, second: Subst) -> Result<Subst, Memory>
+    ensures { IfOk result (λ s. s ≡ Choice (sides_of (sides ++ second ∷ []))) }
+{
     sides.push(second)?;
     Ok(Subst {
         node: SubstNode::Choice(sides),
@@ -63,9 +71,9 @@ fn either(alloc: Global, first: Subst, second: Subst) -> Result<Subst, Memory>
 fn one_or_two(alloc: Global) -> Result<Subst, Memory>
     ensures { IfOk result (λ s. s ≡ example.one_or_two) }
 {
-    let first = assign(alloc, b'n', Term::num(1))?;
+    let sides = one_side(alloc, assign(alloc, b'n', Term::num(1))?)?;
     let second = assign(alloc, b'n', Term::num(2))?;
-    either(alloc, first, second)
+    either(sides, second)
 }
 
 fn assigned(alloc: Global, target: u8, value: Term) -> Result<Box<Subst>, Memory>
@@ -75,49 +83,88 @@ fn assigned(alloc: Global, target: u8, value: Term) -> Result<Box<Subst>, Memory
     Ok(Box::new(alloc, subst)?)
 }
 
-fn if_zero(alloc: Global) -> Result<Subst, Memory>
-    ensures { IfOk result (λ s. s ≡ example.if_zero) }
+fn four_and_five(alloc: Global) -> Result<(Box<Subst>, Box<Subst>), Memory>
+    ensures four { IfOk result (λ p. p.0.value ≡ Assign example.m (Num (pos 4))) }
+    ensures five { IfOk result (λ p. p.1.value ≡ Assign example.m (Num (pos 5))) }
+{
+    let four = assigned(alloc, b'm', Term::num(4))?;
+    let five = assigned(alloc, b'm', Term::num(5))?;
+    Ok((four, five))
+}
+
+fn is_zero(alloc: Global) -> Result<Formula, Memory>
+    ensures { IfOk result (λ f. f ≡ Rel Equal (Var example.n) (Num (pos 0))) }
 {
     let left = Term::var(name(alloc, b'n')?);
-    let test = Formula::rel(RelSign::Equal, left, Term::num(0));
-    let then = assigned(alloc, b'm', Term::num(4))?;
-    let other = assigned(alloc, b'm', Term::num(5))?;
-    Ok(Subst {
-        node: SubstNode::If { test, then, other },
-    })
+    Ok(Formula::rel(RelSign::Equal, left, Term::num(0)))
+}
+
+fn if_zero(alloc: Global) -> Result<Box<Subst>, Memory>
+    ensures { IfOk result (λ b. b.value ≡ example.if_zero) }
+{
+    let test = is_zero(alloc)?;
+    let (then, other) = four_and_five(alloc)?;
+    let node = SubstNode::If { test, then, other };
+    Ok(Box::new(alloc, Subst { node })?)
 }
 
 fn side_by_side(alloc: Global) -> Result<Subst, Memory>
     ensures { IfOk result (λ s. s ≡ example.side_by_side) }
 {
-    let left = assigned(alloc, b'n', Term::num(1))?;
     let right = if_zero(alloc)?;
+    let left = assigned(alloc, b'n', Term::num(1))?;
     Ok(Subst {
-        node: SubstNode::Together(left, Box::new(alloc, right)?),
+        node: SubstNode::Together(left, right),
     })
 }
 
 fn nested(alloc: Global) -> Result<Subst, Memory>
     ensures { IfOk result (λ s. s ≡ example.nested) }
 {
-    let first = side_by_side(alloc)?;
+    let sides = one_side(alloc, side_by_side(alloc)?)?;
     let second = one_or_two(alloc)?;
-    either(alloc, first, second)
+    either(sides, second)
+}
+
+fn z_and_its_use(alloc: Global) -> Result<(Name, Box<Subst>), Memory>
+    ensures name { IfOk result (λ p. p.0 ≡ example.z) }
+    ensures body { IfOk result (λ p. p.1.value ≡ Assign example.n (Var example.z)) }
+{
+    let body = assigned(alloc, b'n', Term::var(name(alloc, b'z')?))?;
+    let name = name(alloc, b'z')?;
+    Ok((name, body))
 }
 
 // `ANY z WHERE .. THEN n := z END`.
 fn any(alloc: Global, domain: Domain, test: Formula) -> Result<Subst, Memory>
     ensures { IfOk result (λ s. s ≡ AnyOf example.z domain test (Assign example.n (Var example.z))) }
 {
-    let body = assign(alloc, b'n', Term::var(name(alloc, b'z')?))?;
+    let (name, body) = z_and_its_use(alloc)?;
     Ok(Subst {
         node: SubstNode::AnyOf {
-            name: name(alloc, b'z')?,
+            name,
             domain,
             test,
-            body: Box::new(alloc, body)?,
+            body,
         },
     })
+}
+
+// z between the two numbers, or of numbers between them.
+fn z_within(alloc: Global, sign: RelSign, lo: i64, hi: i64) -> Result<Formula, Memory>
+    ensures { IfOk result (λ f. f ≡ Rel sign (Var example.z) (Bin Range (Num lo) (Num hi))) }
+{
+    let range = Term::bin(alloc, TermSign::Range, Term::num(lo), Term::num(hi))?;
+    let z = Term::var(name(alloc, b'z')?);
+    Ok(Formula::rel(sign, z, range))
+}
+
+// The number before z.
+fn before_z(alloc: Global, number: i64, sign: RelSign) -> Result<Formula, Memory>
+    ensures { IfOk result (λ f. f ≡ Rel sign (Num number) (Var example.z)) }
+{
+    let z = Term::var(name(alloc, b'z')?);
+    Ok(Formula::rel(sign, Term::num(number), z))
 }
 
 fn last_of(alloc: Global, last: i64) -> Result<Subst, Memory>
@@ -125,13 +172,8 @@ fn last_of(alloc: Global, last: i64) -> Result<Subst, Memory>
     requires high { last ≤ℤ pos 65536 }
     ensures { IfOk result (λ s. s ≡ example.last_of last) }
 {
-    let range = Term::bin(alloc, TermSign::Range, Term::num(1), Term::num(last))?;
-    let member = Formula::rel(RelSign::Member, Term::var(name(alloc, b'z')?), range);
-    let above = Formula::rel(
-        RelSign::Less,
-        Term::num(last - 1),
-        Term::var(name(alloc, b'z')?),
-    );
+    let member = z_within(alloc, RelSign::Member, 1, last)?;
+    let above = before_z(alloc, last - 1, RelSign::Less)?;
     let test = Formula::and(alloc, member, above)?;
     any(alloc, Domain::Range { lo: 1, hi: last }, test)
 }
@@ -139,23 +181,30 @@ fn last_of(alloc: Global, last: i64) -> Result<Subst, Memory>
 fn set_with_one(alloc: Global) -> Result<Subst, Memory>
     ensures { IfOk result (λ s. s ≡ example.set_with_one) }
 {
-    let range = Term::bin(alloc, TermSign::Range, Term::num(0), Term::num(1))?;
-    let part = Formula::rel(RelSign::Subset, Term::var(name(alloc, b'z')?), range);
-    let member = Formula::rel(RelSign::Member, Term::num(1), Term::var(name(alloc, b'z')?));
+    let part = z_within(alloc, RelSign::Subset, 0, 1)?;
+    let member = before_z(alloc, 1, RelSign::Member)?;
     let test = Formula::and(alloc, part, member)?;
     any(alloc, Domain::Subsets { lo: 0, hi: 1 }, test)
 }
 
-// What a run writes to the name, where each choice takes this number.
-fn written(alloc: Global, subst: &Subst, number: u64, letter: u8) -> Result<Value, Memory>
+// The store after a run, where each choice takes this number.
+fn after(alloc: Global, subst: &Subst, number: u64) -> Result<Store, Memory>
     requires { CanRun [] empty subst.now }
 {
     let sets = SetTable {
         sets: Vec::new(alloc),
     };
     let store = Store::new(alloc);
-    let after = perform(alloc, &sets, subst, &store, &mut Same(number))?;
-    after.value_at(alloc, &name(alloc, letter)?)
+    perform(alloc, &sets, subst, &store, &mut Same(number))
+}
+
+// What the run writes to the name.
+fn written(alloc: Global, subst: &Subst, number: u64, letter: u8) -> Result<Value, Memory>
+    requires { CanRun [] empty subst.now }
+{
+    let name = name(alloc, letter)?;
+    let after = after(alloc, subst, number)?;
+    after.value_at(alloc, &name)
 }
 
 fn from_one_or_two(alloc: Global, number: u64) -> Result<Value, Memory> {
