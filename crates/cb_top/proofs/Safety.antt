@@ -1,6 +1,6 @@
 -- A text that `check` accepts is safe.
-use Rattle.std.proofs.Common.{◌≡◌, ℕ, zero, suc, ◌+◌, List, [], ◌∷◌, ◌++◌, map, flat_map, Option, Some, None, refl, sym, ap, ◌∙◌, subst, arith}
-use Rattle.std.specs.Prelude.{slice_get}
+use Rattle.std.proofs.Common.{◌≡◌, ℕ, zero, suc, ◌+◌, ◌-◌, ◌^◌, ◌<◌, ◌≤◌, false, List, [], ◌∷◌, ◌++◌, map, length, drop, Option, Some, None, refl, sym, ap, ◌∙◌, subst, arith, append-nil}
+use Rattle.std.proofs.lemmas.List.{length-drop}
 use Rattle.std.proofs.lemmas.Option.{same_Some}
 use Rattle.cb_lex.specs.declared.raw.proof.RawProof.{RawProof}
 use Rattle.cb_lex.specs.RawCertTree.{RawCertTree}
@@ -16,6 +16,8 @@ use Rattle.cb_obligations.specs.Owed.{Owed, owed_of, machine_owes, AllOwedValid}
 use Rattle.cb_obligations.specs.Sufficing.{ObligationsSuffice, SoundIsCallSafe}
 use Rattle.cb_typed.specs.Laws.{TypedMachinesFit, TypedMachinesKeepKinds, AllOwedKinded, TypedMachinesOweKinded}
 use Rattle.cb_typing.specs.WholeLaws.{WellFormedIsTyped}
+use Rattle.cb_typing.specs.WrittenText.{IsWrittenText}
+use Rattle.cb_spelled.specs.Laws.{SpelledIsWritten, TokensAreBytes}
 use Rattle.cb_check.specs.Derives.{first_bad}
 use Rattle.cb_check.specs.Laws.{DerivedIsValid, DerivesWithoutBad}
 use Rattle.cb_arguments.specs.Scopes.{Symbols, symbols_of}
@@ -27,16 +29,21 @@ use Rattle.cb_verdicts.specs.Verdicts.{verdict_by, verdict_on, verdict_of, verdi
 use Rattle.cb_words.specs.declared.request.Request.TheVariants.{Check}
 use Rattle.cb_lex.specs.declared.lexer.LexFault.{LexFault}
 use Rattle.cb_lex.specs.declared.lexer.LexFault.TheVariants.{BadByte, LongNumber, OpenComment, Memory}
+use Rattle.cb_grammar.specs.declared.parts.Part.TheVariants as part
 use Rattle.cb_grammar.specs.declared.reading.SyntaxFault.{SyntaxFault}
 use Rattle.cb_grammar.specs.declared.reading.SyntaxFault.TheVariants as syntax
+use Rattle.cb_amn_parse.specs.Lexemes.{Lexeme}
+use Rattle.cb_amn_parse.specs.Processes.{text_out}
+use Rattle.cb_amn_parse.specs.Spelling.{IsSpelled}
 use Rattle.cb_verdicts.specs.declared.places.ProofFault.{ProofFault}
 use Rattle.cb_verdicts.specs.declared.places.ProofFault.TheVariants as wrong
-use Rattle.cb_top.specs.Outcome.{Answer, IsOutcome, too_long, lexical, cut, IsReadAndJudged, refused_text, refused_proofs, spelled, IsJudged, unbuilt, ill, limited, answered, IsAnswered, wrong_proof, right_proofs, open_status, lexical_answer, syntax_answer, proof_answer, IsJudgeable, IsWell, SpellsText, SpellsProofs}
+use Rattle.cb_top.specs.Outcome.{Answer, too_long, lexical, cut, refused_text, refused_proofs, spelled, IsJudged, unbuilt, ill, limited, answered, wrong_proof, right_proofs, open_status, lexical_answer, syntax_answer, proof_answer, SpellsText, SpellsProofs}
 use Rattle.cb_lex.specs.Lexes.{Lexes, start}
 use Rattle.cb_lex.specs.declared.raw.text.RawText.{RawText}
 use Rattle.cb_lex.specs.declared.token.Token.{Token}
 use Rattle.std.specs.Prelude.{Ok}
 use Rattle.cb_top.specs.Safe.{IsSafe, AcceptedIsSafe}
+use Rattle.cb_top.specs.declared.TheConstants.{MAX_BYTES}
 
 -- ---- lists
 
@@ -102,10 +109,19 @@ not_proof (wrong.Unknown n) h = omega (arith, h)
 not_proof (wrong.Double n) h = omega (arith, h)
 not_proof wrong.Memory h = omega (arith, h)
 
+-- ---- the text
+
+module _ (written : SpelledIsWritten) (counted : TokensAreBytes) where
+  text_written : (bytes : List ℕ) → length bytes ≤ MAX_BYTES → (tokens : List Token) → Lexes bytes start (Ok tokens) → (at : ℕ) (t : RawText) → SpellsText tokens at t → IsWrittenText t.machines
+  text_written bytes fits tokens cuts at t spells =
+      let few : length (drop 0 tokens) < 2 ^ 32 = omega (arith, fits, counted bytes start tokens cuts, length-drop 0 tokens) in
+      let whole = subst (λ (ls : List Lexeme). IsSpelled part.Text 0 false (drop 0 tokens) (at + 1 - 0) ls) (sym (append-nil (text_out t))) spells.spelled in
+      written part.Text 0 false (drop 0 tokens) (at + 1 - 0) [] t few whole
+
 -- ---- the theorem
 
 module _ (valid : DerivedIsValid) (no_bad : DerivesWithoutBad) (kinded : TypedMachinesOweKinded) (fit : TypedMachinesFit) (keep : TypedMachinesKeepKinds)
-    (suffice : ObligationsSuffice) (sound : SoundIsCallSafe) (typed : WellFormedIsTyped) where
+    (suffice : ObligationsSuffice) (sound : SoundIsCallSafe) (written : SpelledIsWritten) (counted : TokensAreBytes) (typed : WellFormedIsTyped) where
   safe_machines : (y : System) → Typed y → (os : List Obligation) → AreOwed y os → (ps : List RawProof) →
       open_count (verdicts (set_sizes y) (symbols_of y) ps os) ≡ 0 → (k : ℕ) (m : Machine) → IsAt y.machines k m → CallSafe (set_sizes y) m
   safe_machines y t os owed ps e k m at =
@@ -114,14 +130,14 @@ module _ (valid : DerivedIsValid) (no_bad : DerivesWithoutBad) (kinded : TypedMa
       let here = valid_at (set_sizes y) y.machines (subst (AllOwedValid (set_sizes y)) owed all) k m at in
       sound y m (keep y t k m at) (suffice y m (fit y t k m at) here)
 
-  judged_safe : (files : List (List ℕ)) (bytes : List ℕ) (tokens : List Token) → Lexes bytes start (Ok tokens) → (at : ℕ) (t : RawText) → SpellsText tokens at t →
+  judged_safe : (files : List (List ℕ)) (bytes : List ℕ) → length bytes ≤ MAX_BYTES → (tokens : List Token) → Lexes bytes start (Ok tokens) → (at : ℕ) (t : RawText) → SpellsText tokens at t →
       (ps : List RawProof) → SpellsProofs tokens at ps → (answer : Answer) → IsJudged (Check files) t ps answer → answer.status ≡ 0 → IsSafe bytes
-  judged_safe files bytes tokens cuts at t spells ps proves answer (unbuilt n e) s = absurd (omega (arith, status_of e s))
-  judged_safe files bytes tokens cuts at t spells ps proves answer (ill j f h e) s = absurd (omega (arith, status_of e s))
-  judged_safe files bytes tokens cuts at t spells ps proves answer (limited y w l h e) s = absurd (omega (arith, status_of e s))
-  judged_safe files bytes tokens cuts at t spells ps proves answer (answered y w n os owed (wrong_proof f h e)) s = absurd (not_proof f (status_of e s))
-  judged_safe files bytes tokens cuts at t spells ps proves answer (answered y w n os owed (right_proofs h e)) s =
-      let y_typed = typed t.machines w.judgeable.written w.well_formed y w.system in
+  judged_safe files bytes fits tokens cuts at t spells ps proves answer (unbuilt n e) s = absurd (omega (arith, status_of e s))
+  judged_safe files bytes fits tokens cuts at t spells ps proves answer (ill j f h e) s = absurd (omega (arith, status_of e s))
+  judged_safe files bytes fits tokens cuts at t spells ps proves answer (limited y w l h e) s = absurd (omega (arith, status_of e s))
+  judged_safe files bytes fits tokens cuts at t spells ps proves answer (answered y w n os owed (wrong_proof f h e)) s = absurd (not_proof f (status_of e s))
+  judged_safe files bytes fits tokens cuts at t spells ps proves answer (answered y w n os owed (right_proofs h e)) s =
+      let y_typed = typed t.machines (text_written written counted bytes fits tokens cuts at t spells) w.well_formed y w.system in
       record {
         tokens = tokens;
         cut = cuts;
@@ -140,4 +156,4 @@ module _ (valid : DerivedIsValid) (no_bad : DerivesWithoutBad) (kinded : TypedMa
   accepted_safe files bytes answer (lexical l f h e) s = absurd (not_lexical f (status_of e s))
   accepted_safe files bytes answer (cut l tokens cuts (refused_text f h e)) s = absurd (not_syntax f (status_of e s))
   accepted_safe files bytes answer (cut l tokens cuts (refused_proofs at t spells f h e)) s = absurd (not_syntax f (status_of e s))
-  accepted_safe files bytes answer (cut l tokens cuts (spelled at t spells ps proves j)) s = judged_safe files bytes tokens cuts at t spells ps proves answer j s
+  accepted_safe files bytes answer (cut l tokens cuts (spelled at t spells ps proves j)) s = judged_safe files bytes l tokens cuts at t spells ps proves answer j s

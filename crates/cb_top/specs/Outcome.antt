@@ -19,7 +19,6 @@ use Rattle.cb_amn_parse.specs.Spelling.{SpellsFrom}
 use Rattle.cb_forms.specs.declared.fault.Fault.{Fault}
 use Rattle.cb_spec.specs.declared.system.System.{System}
 use Rattle.cb_types.specs.Whole.{WellFormed, FirstFault, IsSystemOf}
-use Rattle.cb_typing.specs.WrittenText.{IsWrittenText}
 use Rattle.cb_seq.specs.declared.sequent.ObName.{ObName}
 use Rattle.cb_seq.specs.declared.sequent.Obligation.{Obligation}
 use Rattle.cb_wp.specs.declared.limits.Which.{Which}
@@ -158,11 +157,9 @@ pub data IsAnswered (asked : Request) (y : System) (os : List Obligation) (ps : 
   wrong_proof : (f : ProofFault) → first_wrong (keys_of os) [] ps ≡ Some f → answer ≡ proof_answer f → IsAnswered asked y os ps answer
   right_proofs : first_wrong (keys_of os) [] ps ≡ None → answer ≡ answer_to asked y os ps → IsAnswered asked y os ps answer
 
--- What is judged: a text of machines alone, with nothing empty that may not be, and nothing that 32 bits can't count. A text that is
--- spelled in 4,194,304 bytes has nothing else wrong than controllers, but that is not shown.
-pub record IsJudgeable (t : RawText) : Type 0 where
-  pub machines_alone : t.order ≡ None
-  pub written : IsWrittenText t.machines
+-- what is judged: a text of machines alone
+abbrev pub IsJudgeable : RawText → Type 0
+IsJudgeable t = t.order ≡ None
 
 -- a system is made of the text's machines
 pub record IsWell (t : RawText) (y : System) : Type 0 where

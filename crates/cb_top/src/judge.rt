@@ -1,11 +1,11 @@
 //! What a request answers on the bytes of its files.
-ghost use Rattle.std.specs.Prelude.{◌≡◌, ℕ, ◌≤◌, ◌<◌, true, false, List, [], length, map, string_bytes, IfOk, IfErr, slice_index_or};
+ghost use Rattle.std.specs.Prelude.{◌≡◌, ℕ, ◌≤◌, ◌<◌, List, [], length, map, string_bytes, IfOk, IfErr, slice_index_or};
 ghost use Rattle.cb_edge.specs.Edge.{StaysSure};
 ghost use Rattle.cb_top.specs.Change.{sources};
 ghost use Rattle.cb_top.specs.Joined.{joined, AreHeld};
 ghost use Rattle.cb_top.specs.Stop.{HasFileCause};
 ghost use Rattle.cb_words.specs.declared.request.Request.TheVariants as request;
-ghost use Rattle.cb_top.specs.Outcome.{answer_of, ill_formed, ill_answer, limit_answer, proof_answer, verdict_answer, place_text, syntax_answer, IsWrongProof, IsJudgeable, IsWell, SpellsText, IsAnswered, IsJudged, IsReadAndJudged, IsOutcome, read_line};
+ghost use Rattle.cb_top.specs.Outcome.{answer_of, ill_formed, ill_answer, limit_answer, proof_answer, verdict_answer, place_text, syntax_answer, IsWrongProof, IsWell, SpellsText, IsAnswered, IsJudged, IsReadAndJudged, IsOutcome, read_line};
 
 use crate::MAX_BYTES;
 use crate::code::{code_name, which_word};
@@ -25,7 +25,6 @@ use cb_spec::system::System;
 use cb_trace::listing::listing_text;
 use cb_trace::verdict::{Verdict, open_count, verdict_text};
 use cb_types::well_formed::{IllFormed, well_formed};
-use cb_typing::written::is_written;
 use cb_verdicts::judge::verdicts;
 use cb_verdicts::names::key;
 use cb_verdicts::obligations::all_obligations;
@@ -126,16 +125,6 @@ fn misread(alloc: Global, fault: SyntaxFault) -> Result<Outcome, AllocError>
     }
 }
 
-fn is_judgeable(text: &RawText) -> bool
-    ensures yes { result ≡ true → IsJudgeable text.now }
-    ensures no { result ≡ false → IsJudgeable text.now → ⊥ }
-{
-    match &text.order {
-        Some(_) => false,
-        None => is_written(text.machines.as_slice()),
-    }
-}
-
 // The outcome of a text with its proofs.
 fn judge_text(
     alloc: Global,
@@ -145,7 +134,8 @@ fn judge_text(
 ) -> Result<Outcome, AllocError>
     ensures { IfOk result (λ o. IsJudged request.now text.now proofs.now (answer_of o)) }
 {
-    if !is_judgeable(text) {
+    // Texts with controllers aren't judged yet.
+    if text.order.is_some() {
         return fault(alloc, b"Form", b"");
     }
     match well_formed(alloc, text) {

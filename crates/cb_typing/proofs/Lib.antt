@@ -21,5 +21,3 @@ pub mod Inside
 pub mod Operations
 pub mod Machines
 pub mod Systems
-pub mod WrittenSteps
-pub mod WrittenTests

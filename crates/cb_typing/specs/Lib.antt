@@ -4,4 +4,3 @@ pub mod Reflects
 pub mod Sides
 pub mod WholeLaws
 pub mod WrittenText
-pub mod Written

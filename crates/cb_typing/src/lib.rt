@@ -1,5 +1,4 @@
-//! Why a text without a fault is a typed system.
+//! Why a text without a fault is a typed system. Laws alone.
 #![tactic(auto)]
 
 pub mod laws;
-pub mod written;

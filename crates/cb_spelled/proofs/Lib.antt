@@ -1,0 +1,4 @@
+pub mod Parts
+pub mod Depths
+pub mod Texts
+pub mod Bytes
