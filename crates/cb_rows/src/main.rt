@@ -12,10 +12,9 @@ use cb_edge::{MemFiles, MemSink, NoGate};
 use cb_top::command;
 use row::Row;
 use std::alloc::Global;
-use std::io;
-use std::str;
 use std::sync::Wait;
 use std::thread::Threads;
+use std::{io, str};
 
 // Room for what a command of a row prints.
 const ROOM: usize = 1 << 20;
@@ -27,7 +26,9 @@ fn agrees<R: Threads + Wait + Sync + Print>(rt: &R, alloc: Global, row: Row) -> 
     let mut err = MemSink::new(alloc, 64, Vec::new(alloc));
     out.reserve(ROOM)?;
     err.reserve(ROOM)?;
-    let status = command(rt, alloc, &row.words, &mut files, &mut out, &mut err, &NoGate);
+    let status = command(
+        rt, alloc, &row.words, &mut files, &mut out, &mut err, &NoGate,
+    );
     let mut printed = out.bytes().to_vec(alloc)?;
     printed.extend_from_slice(err.bytes())?;
     let holds = row.status == Some(status) && printed == row.printed;

@@ -81,8 +81,10 @@ impl Row {
 
     fn add_times(&mut self, argument: &str) -> Result<(), AllocError> {
         self.ended = false;
-        if let (Some((count, piece)), Some(file)) = (argument.split_once(' '), self.files.last_mut())
-        {
+        if let (Some((count, piece)), Some(file)) = (
+            argument.split_once(' '),
+            self.files.last_mut(),
+        ) {
             for _ in 0..count.parse::<u32>().unwrap_or(0) {
                 file.1.extend_from_slice(piece.as_bytes())?;
             }
