@@ -24,7 +24,7 @@ use Rattle.cb_amn_print.proofs.Lines.{Good}
 use Rattle.cb_amn_print.proofs.MachinePieces.{name}
 use Rattle.cb_amn_print.proofs.Spelled.{Fine}
 use Rattle.cb_amn_parse.specs.Lexemes.{Named}
-use Rattle.cb_cert_print.specs.Full.{IsOneOf, IsWordOf}
+use Rattle.cb_cert_shapes.specs.Full.{IsOneOf, IsWordOf}
 
 -- behind a PROOF, where opened names may stand
 abbrev pub G : List Symbol → List Piece → Type 0

@@ -1,6 +1,7 @@
 -- What is printed of proofs spells them again.
 use Rattle.std.proofs.Common.{◌≡◌, ℕ, zero, suc, Bool, true, false, List, [], ◌∷◌, ◌++◌, drop, refl, sym, ◌∙◌, arith, eqb, subst, inl}
-use Rattle.std.specs.Prelude.{Ok, slice_get}
+use Rattle.std.specs.Prelude.{Ok, ◌-◌, slice_get}
+use Rattle.std.proofs.lemmas.List.{append-nil}
 use Rattle.std.specs.List.{flat_map}
 use Rattle.cb_lex.specs.declared.token.Place.{Place}
 use Rattle.cb_lex.specs.declared.token.Token.{Token}
@@ -22,11 +23,14 @@ use Rattle.cb_grammar.specs.Numbers as part
 use Rattle.cb_grammar.specs.Terminals.{terminals}
 use Rattle.cb_amn_parse.specs.Lexemes.{Lexeme, heard_at, heard, lexemes}
 use Rattle.cb_amn_parse.specs.Proofs.{proofs_out}
+use Rattle.cb_amn_parse.specs.Spelling.{IsSpelled}
 use Rattle.cb_amn_print.proofs.Fronts.{IsToken}
 use Rattle.cb_amn_print.proofs.Scripts.{Piece, terms, items, silent, and_then, cut_of}
 use Rattle.cb_amn_print.proofs.Lines.{Good, plain, numbered}
 use Rattle.cb_amn_print.proofs.Premises.{AllTokens, lexed_read, dropped_read}
 use Rattle.cb_amn_print.proofs.Spelled.{Laws, Fine, AllFine}
+use Rattle.cb_cert_shapes.specs.Full.{AreFull}
+use Rattle.cb_cert_shapes.specs.Laws.{ProofsAreFull}
 use Rattle.cb_cert_print.specs.Proofs.{proof_text}
 use Rattle.cb_cert_print.specs.Printed.{SpellsProofs, ArePrintedBack}
 use Rattle.cb_cert_print.proofs.Pieces.{proofs_script, proofs-text, proofs-told}
@@ -85,9 +89,11 @@ spells_back laws opened ps g =
       told = ended_told p 0 q.tokens (q.last ∷ []) (q.told 0 q.tokens refl) ∙ proofs-told ps;
     }
 
-pub printed_back : Laws → ArePrintedBack
-printed_back laws bytes all depth opened from to ps u lexed spelled =
+pub printed_back : ProofsAreFull → Laws → ArePrintedBack
+printed_back full laws bytes all depth opened from to ps lexed spelled =
     let a = dropped_read from all (lexed_read lexed) in
     let s = spelled.spelled in
+    let alone : IsSpelled language_part.Proofs depth opened (drop from all) (to - from) (proofs_out ps ++ []) = subst (λ (x : List Lexeme). IsSpelled language_part.Proofs depth opened (drop from all) (to - from) x) (sym (append-nil (proofs_out ps))) s in
+    let u : AreFull ps = full language_part.Proofs depth opened (drop from all) (to - from) [] [] ps alone in
     let f : AllFine true (proofs_out ps) = subst (λ (x : List Lexeme). AllFine true x) s.told (all_fine (drop from all) s.items a) in
     spells_back laws opened ps (proofs_good laws ps u f)

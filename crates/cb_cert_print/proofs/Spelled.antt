@@ -33,7 +33,7 @@ use Rattle.cb_amn_print.proofs.Lines.{keyword_read, join, sign_taken, word_taken
 use Rattle.cb_amn_print.proofs.Spelled.{Laws, Fine, AllFine, parted, term_good, formula_good}
 use Rattle.cb_amn_print.proofs.MachinePieces.{word, name}
 use Rattle.cb_amn_print.specs.Tokens.{name_sort}
-use Rattle.cb_cert_print.specs.Full.{IsWordOf, words_of, HasRows, IsFullCert, AreFullCerts, IsFullObligation, AreFull}
+use Rattle.cb_cert_shapes.specs.Full.{IsWordOf, words_of, HasRows, IsFullCert, AreFullCerts, IsFullObligation, AreFull}
 use Rattle.cb_cert_print.proofs.Pieces.{number, colon, obligation_script, row_script, rows_rest, boxed, arguments_script, cert_script, children_script, certs_rest, each_script, proofs_script}
 use Rattle.cb_cert_print.proofs.Keyed.{G, by_key, AllKeyed, by_word, by_table_on}
 

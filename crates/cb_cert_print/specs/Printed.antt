@@ -14,7 +14,6 @@ use Rattle.cb_amn_parse.specs.Spelling.{SpellsFrom}
 use Rattle.cb_amn_parse.specs.Proofs.{proofs_out}
 use Rattle.cb_amn_print.specs.Printed.{unplaced}
 use Rattle.cb_cert_print.specs.Proofs.{proof_text}
-use Rattle.cb_cert_print.specs.Full.{AreFull}
 
 -- The bytes are cut into tokens that spell proofs up to the end of the text, and for them this is written, places aside.
 pub record SpellsProofs (opened : Bool) (bytes : List ℕ) (out : List Lexeme) : Type 0 where
@@ -27,4 +26,4 @@ pub record SpellsProofs (opened : Bool) (bytes : List ℕ) (out : List Lexeme) :
 -- the texts of proofs that the tokens of some text spell, one behind another, spell these proofs again
 abbrev pub ArePrintedBack : Type 0
 ArePrintedBack =
-    (bytes : List ℕ) (all : List Token) (depth : ℕ) (opened : Bool) (from to : ℕ) (ps : List RawProof) → AreFull ps → Lexes bytes start (Ok all) → SpellsFrom part.Proofs depth opened all from to (proofs_out ps) → SpellsProofs opened (flat_map proof_text ps) (proofs_out ps)
+    (bytes : List ℕ) (all : List Token) (depth : ℕ) (opened : Bool) (from to : ℕ) (ps : List RawProof) → Lexes bytes start (Ok all) → SpellsFrom part.Proofs depth opened all from to (proofs_out ps) → SpellsProofs opened (flat_map proof_text ps) (proofs_out ps)

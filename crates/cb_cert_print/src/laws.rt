@@ -2,12 +2,11 @@
 
 ghost use Rattle.cb_cert_print.specs.Printed.{ArePrintedBack};
 
+use cb_cert_shapes::laws as shapes;
 use cb_grammar::laws as grammar;
 use cb_written::laws as written;
 
-/// What is printed of proofs that some text spells, one behind another, spells these proofs again, places aside. In the
-/// proofs each rule has the arguments and the premises that its word takes, LIN has a row, and the names of obligations
-/// have the parts that their groups have.
+/// What is printed of proofs that some text spells, one behind another, spells these proofs again, places aside.
 pub fn proofs_are_printed_back()
     ensures { ArePrintedBack }
 {
@@ -18,4 +17,5 @@ pub fn proofs_are_printed_back()
     grammar::sum_is_written();
     grammar::product_is_written();
     written::unit_is_written();
+    shapes::proofs_are_full();
 }
