@@ -11,7 +11,6 @@ use crate::MAX_BYTES;
 use crate::code::{code_name, which_word};
 use crate::outcome::{Ending, Outcome, Refusal, Stop};
 use crate::sources::{Unread, read_files};
-use cb_arguments::scope::symbols;
 use cb_cert::reading::proofs;
 use cb_csp_parse::reading::text;
 use cb_edge::Files;
@@ -25,7 +24,7 @@ use cb_spec::system::System;
 use cb_trace::listing::listing_text;
 use cb_trace::verdict::{Verdict, open_count, verdict_text};
 use cb_types::well_formed::{IllFormed, well_formed};
-use cb_verdicts::judge::verdicts;
+use cb_verdicts::judge::{JudgeFault, judge};
 use cb_verdicts::names::key;
 use cb_verdicts::obligations::all_obligations;
 use cb_verdicts::places::{ProofFault, places};
@@ -139,7 +138,7 @@ fn judge_text(
         return fault(alloc, b"Form", b"");
     }
     match well_formed(alloc, text) {
-        Ok(system) => judge_system(alloc, request, text, &system, proofs),
+        Ok(system) => judge_system(alloc, request, text, system, proofs),
         Err(IllFormed::Fault { code, place }) => coded_fault(alloc, code, place),
         Err(IllFormed::Memory) => Err(AllocError),
     }
@@ -150,32 +149,51 @@ fn judge_system(
     alloc: Global,
     request: &Request,
     _text: &RawText,
+    system: System,
+    proofs: &[RawProof],
+) -> Result<Outcome, AllocError>
+    requires { IsWell _text.now system }
+    ensures { IfOk result (λ o. IsJudged request.now _text.now proofs.now (answer_of o)) }
+{
+    match request {
+        Request::List { .. } => list_system(alloc, _text, &system, proofs),
+        Request::Check { .. } => check_system(alloc, _text, system, proofs),
+    }
+}
+
+// The outcome of `list`.
+fn list_system(
+    alloc: Global,
+    _text: &RawText,
     system: &System,
     proofs: &[RawProof],
 ) -> Result<Outcome, AllocError>
     requires { IsWell _text.now system.now }
-    ensures { IfOk result (λ o. IsJudged request.now _text.now proofs.now (answer_of o)) }
+    ensures { IfOk result (λ o. (files : List (List ℕ)) → IsJudged (request.List files) _text.now proofs.now (answer_of o)) }
 {
     match all_obligations(alloc, system.machines.as_slice()) {
-        Ok(list) => judge_list(alloc, request, system, &list, proofs),
+        Ok(list) => listing(alloc, system, &list, proofs),
         Err(MakeFault::Limit(which)) => limit_fault(alloc, which_word(which)),
         Err(MakeFault::Memory) => Err(AllocError),
     }
 }
 
-// The outcome of a list of obligations.
-fn judge_list(
+// The outcome of `check`.
+fn check_system(
     alloc: Global,
-    request: &Request,
-    system: &System,
-    list: &[Obligation],
+    _text: &RawText,
+    system: System,
     proofs: &[RawProof],
 ) -> Result<Outcome, AllocError>
-    ensures { IfOk result (λ o. IsAnswered request.now system.now list.now proofs.now (answer_of o)) }
+    requires { IsWell _text.now system }
+    ensures { IfOk result (λ o. (files : List (List ℕ)) → IsJudged (request.Check files) _text.now proofs.now (answer_of o)) }
 {
-    match request {
-        Request::List { .. } => listing(alloc, system, list, proofs),
-        Request::Check { .. } => checking(alloc, system, list, proofs),
+    match judge(alloc, system, proofs) {
+        Ok(judged) => verdict_outcome(alloc, &judged.lines),
+        Err(JudgeFault::Limit(which)) => limit_fault(alloc, which_word(which)),
+        Err(JudgeFault::UnknownProof(name)) => proof_fault(alloc, ProofFault::Unknown(name)),
+        Err(JudgeFault::DoubleProof(name)) => proof_fault(alloc, ProofFault::Double(name)),
+        Err(JudgeFault::Memory) => Err(AllocError),
     }
 }
 
@@ -193,22 +211,6 @@ fn listing(
             ending: Ending::Done,
             text: listing_text(alloc, &system.sets, list)?,
         }),
-        Err(wrong) => proof_fault(alloc, wrong),
-    }
-}
-
-// The verdicts on the obligations, printed.
-fn checking(
-    alloc: Global,
-    system: &System,
-    list: &[Obligation],
-    proofs: &[RawProof],
-) -> Result<Outcome, AllocError>
-    ensures { IfOk result (λ o. (files : List (List ℕ)) → IsAnswered (request.Check files) system.now list.now proofs.now (answer_of o)) }
-{
-    let symbols = symbols(alloc, system)?;
-    match verdicts(alloc, &system.sets, &symbols, list, proofs) {
-        Ok(lines) => verdict_outcome(alloc, &lines),
         Err(wrong) => proof_fault(alloc, wrong),
     }
 }

@@ -3,3 +3,4 @@ pub mod Given
 pub mod Proofs
 pub mod Verdicts
 pub mod Owed
+pub mod Judging

@@ -1,12 +1,8 @@
-use Rattle.std.proofs.Common.{ap, ◌∙◌}
 use Rattle.std.proofs.lemmas.Result.{IfOk-weaker}
-use Rattle.cb_top.specs.Outcome.{limit_answer, limited, answered}
 use Rattle.cb_top.proofs.judge.judge_system.Goals as goal
 
-pub returns-in-Ok : goal.returns-in-Ok
-returns-in-Ok c =
-    IfOk-weaker c.judge_list.result _ _ (λ o a. answered c.args.system.now c.requires (rw c.as_slice.ensures at c.in-Ok.ensures.within) c.in-Ok.list.items (rw c.as_slice.ensures at c.in-Ok.ensures.list) (rw c.deref.ensures.value at a)) c.judge_list.ensures
+pub returns-in-List : goal.returns-in-List
+returns-in-List c = rw c.in-List.is (IfOk-weaker c.list_system.result _ _ (λ o a. a _) c.list_system.ensures)
 
-pub returns-in-Err-Limit : goal.returns-in-Err-Limit
-returns-in-Err-Limit c =
-    IfOk-weaker c.limit_fault.result _ _ (λ o e. limited c.args.system.now c.requires c.in-Err-Limit.which (rw (c.in-Err-Limit.field-0-is, c.as_slice.ensures) at c.in-Err-Limit.ensures.fault) (e ∙ ap limit_answer c.which_word.ensures)) c.limit_fault.ensures
+pub returns-in-Check : goal.returns-in-Check
+returns-in-Check c = rw c.in-Check.is (IfOk-weaker c.check_system.result _ _ (λ o a. a _) c.check_system.ensures)
