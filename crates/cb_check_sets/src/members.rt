@@ -21,6 +21,14 @@ pub(crate) fn relation(
     Ok(Formula::rel(sign, left.copy(alloc)?, right.copy(alloc)?))
 }
 
+/// The item is not in the set.
+pub(crate) fn outside(alloc: Global, item: &Term, set: &Term) -> Result<Formula, Memory>
+    ensures { IfOk result (λ f. f ≡ tree.Not (tree.Rel RelSign.Member item.now set.now)) }
+{
+    let inside = relation(alloc, RelSign::Member, item, set)?;
+    Formula::not(alloc, inside)
+}
+
 // The formula, or the item is one of the terms.
 fn or_one_of(
     alloc: Global,
@@ -51,6 +59,38 @@ fn one_of(alloc: Global, item: &Term, terms: &[Term]) -> Result<Formula, Memory>
     }
 }
 
+fn in_union(alloc: Global, item: &Term, left: &Term, right: &Term) -> Result<Formula, Memory>
+    ensures { IfOk result (λ f. f ≡ tree.Or (tree.Rel RelSign.Member item.now left.now) (tree.Rel RelSign.Member item.now right.now)) }
+{
+    let first = relation(alloc, RelSign::Member, item, left)?;
+    let second = relation(alloc, RelSign::Member, item, right)?;
+    Formula::or(alloc, first, second)
+}
+
+fn in_both(alloc: Global, item: &Term, left: &Term, right: &Term) -> Result<Formula, Memory>
+    ensures { IfOk result (λ f. f ≡ tree.And (tree.Rel RelSign.Member item.now left.now) (tree.Rel RelSign.Member item.now right.now)) }
+{
+    let first = relation(alloc, RelSign::Member, item, left)?;
+    let second = relation(alloc, RelSign::Member, item, right)?;
+    Formula::and(alloc, first, second)
+}
+
+fn in_difference(alloc: Global, item: &Term, left: &Term, right: &Term) -> Result<Formula, Memory>
+    ensures { IfOk result (λ f. f ≡ tree.And (tree.Rel RelSign.Member item.now left.now) (tree.Not (tree.Rel RelSign.Member item.now right.now))) }
+{
+    let first = relation(alloc, RelSign::Member, item, left)?;
+    let out = outside(alloc, item, right)?;
+    Formula::and(alloc, first, out)
+}
+
+fn in_range(alloc: Global, item: &Term, left: &Term, right: &Term) -> Result<Formula, Memory>
+    ensures { IfOk result (λ f. f ≡ tree.And (tree.Rel RelSign.AtMost left.now item.now) (tree.Rel RelSign.AtMost item.now right.now)) }
+{
+    let least = relation(alloc, RelSign::AtMost, left, item)?;
+    let greatest = relation(alloc, RelSign::AtMost, item, right)?;
+    Formula::and(alloc, least, greatest)
+}
+
 // Membership in what a sign makes of two terms, where that is a set.
 fn in_compound(
     alloc: Global,
@@ -62,27 +102,10 @@ fn in_compound(
     ensures { IfOk result (λ o. o ≡ spec.membership item.now (tree.Bin sign left.now right.now)) }
 {
     match sign {
-        TermSign::Union => {
-            let first = relation(alloc, RelSign::Member, item, left)?;
-            let second = relation(alloc, RelSign::Member, item, right)?;
-            Ok(Some(Formula::or(alloc, first, second)?))
-        }
-        TermSign::Inter => {
-            let first = relation(alloc, RelSign::Member, item, left)?;
-            let second = relation(alloc, RelSign::Member, item, right)?;
-            Ok(Some(Formula::and(alloc, first, second)?))
-        }
-        TermSign::Minus => {
-            let first = relation(alloc, RelSign::Member, item, left)?;
-            let second = relation(alloc, RelSign::Member, item, right)?;
-            let out = Formula::not(alloc, second)?;
-            Ok(Some(Formula::and(alloc, first, out)?))
-        }
-        TermSign::Range => {
-            let least = relation(alloc, RelSign::AtMost, left, item)?;
-            let greatest = relation(alloc, RelSign::AtMost, item, right)?;
-            Ok(Some(Formula::and(alloc, least, greatest)?))
-        }
+        TermSign::Union => Ok(Some(in_union(alloc, item, left, right)?)),
+        TermSign::Inter => Ok(Some(in_both(alloc, item, left, right)?)),
+        TermSign::Minus => Ok(Some(in_difference(alloc, item, left, right)?)),
+        TermSign::Range => Ok(Some(in_range(alloc, item, left, right)?)),
         TermSign::Add | TermSign::Mul | TermSign::Div | TermSign::Mod => Ok(None),
     }
 }

@@ -5,10 +5,10 @@ ghost use Rattle.std.specs.Option.{option_copied};
 ghost use Rattle.cb_term.specs.Table.{sizes_of};
 ghost use Rattle.cb_term.specs.Tree as tree;
 ghost use Rattle.cb_term.specs.declared.sign.TermSign.TheVariants as TermSign;
-ghost use Rattle.cb_seq.specs.Premises.{claim_at, adding};
+ghost use Rattle.cb_seq.specs.Premises.{claim_at, proving, adding};
 ghost use Rattle.cb_check_sets.specs.SetRules as spec;
 
-use crate::members::{membership, relation};
+use crate::members::{membership, outside, relation};
 use cb_seq::kinds::{kind_of, rel_kinds, size_of_set};
 use cb_seq::premise::{Premise, Premises, SequentRef, fresh, hypothesis};
 use cb_seq::rule::{Rule, TermArgument};
@@ -40,13 +40,26 @@ fn two(alloc: Global, first: Premise, second: Premise) -> Result<Option<Premises
     Ok(Some(premises))
 }
 
+fn only_fact(alloc: Global, fact: Formula) -> Result<Items<Formula>, Memory>
+    ensures { IfOk result (λ fs. fs ≡ fact ∷ []) }
+{
+    let mut facts = Items::new(alloc);
+    facts.push(fact)?;
+    Ok(facts)
+}
+
 // The premise with this further hypothesis.
 fn with(alloc: Global, fact: Formula) -> Result<Premise, Memory>
     ensures { IfOk result (λ p. p ≡ adding (fact ∷ [])) }
 {
-    let mut facts = Items::new(alloc);
-    facts.push(fact)?;
-    Ok(Premise::adding(facts))
+    Ok(Premise::adding(only_fact(alloc, fact)?))
+}
+
+// The premise with the relation between copies of the terms as its goal.
+fn proves(alloc: Global, sign: RelSign, left: &Term, right: &Term) -> Result<Premise, Memory>
+    ensures { IfOk result (λ p. p ≡ proving (tree.Rel sign left.now right.now)) }
+{
+    Ok(Premise::proving(alloc, relation(alloc, sign, left, right)?))
 }
 
 // ---- kinds
@@ -130,6 +143,46 @@ fn member_left(alloc: Global, fact: Option<&Formula>) -> Result<Option<Premises>
 
 // ---- parts
 
+// The item with the name is in the set.
+fn named_member(alloc: Global, name: &Name, set: &Term) -> Result<Formula, Memory>
+    ensures { IfOk result (λ f. f ≡ tree.Rel RelSign.Member (tree.Var name.now) set.now) }
+{
+    let item = Term::var(name.copy(alloc)?);
+    Ok(Formula::rel(RelSign::Member, item, set.copy(alloc)?))
+}
+
+// Two in one, so that few trees are held while there may be no memory: the hypotheses and the goal of SUBSET's premise.
+fn named_members(
+    alloc: Global,
+    name: &Name,
+    inner: &Term,
+    outer: &Term,
+) -> Result<(Items<Formula>, Formula), Memory>
+    ensures facts { IfOk result (λ p. p.0 ≡ tree.Rel RelSign.Member (tree.Var name.now) inner.now ∷ []) }
+    ensures goal { IfOk result (λ p. p.1 ≡ tree.Rel RelSign.Member (tree.Var name.now) outer.now) }
+{
+    let facts = only_fact(alloc, named_member(alloc, name, inner)?)?;
+    let goal = named_member(alloc, name, outer)?;
+    Ok((facts, goal))
+}
+
+fn opened_item(
+    alloc: Global,
+    inner: &Term,
+    outer: &Term,
+    kind: Kind,
+    name: Name,
+) -> Result<Premise, Memory>
+    ensures { IfOk result (λ p. Some (p ∷ []) ≡ spec.each_item inner.now outer.now kind (Some name)) }
+{
+    let (added, goal) = named_members(alloc, &name, inner, outer)?;
+    Ok(Premise {
+        goal: Some(goal),
+        added,
+        opened: Some((name, kind)),
+    })
+}
+
 // The premise of SUBSET, with its fresh name.
 fn each_item(
     alloc: Global,
@@ -140,14 +193,10 @@ fn each_item(
 ) -> Result<Option<Premises>, Memory>
     ensures { IfOk result (λ o. o ≡ spec.each_item inner.now outer.now kind name) }
 {
-    let Some(name) = name else {
-        return Ok(None);
-    };
-    let item = Term::var(name.copy(alloc)?);
-    let mut premise = with(alloc, relation(alloc, RelSign::Member, &item, inner)?)?;
-    premise.goal = Some(relation(alloc, RelSign::Member, &item, outer)?);
-    premise.opened = Some((name, kind));
-    one(alloc, premise)
+    match name {
+        Some(name) => one(alloc, opened_item(alloc, inner, outer, kind, name)?),
+        None => Ok(None),
+    }
 }
 
 // SUBSET
@@ -177,6 +226,21 @@ fn subset_right(
     }
 }
 
+// The premise of SUBSETL.
+fn passed_on(
+    alloc: Global,
+    item: &Term,
+    inner: &Term,
+    outer: &Term,
+) -> Result<Option<Premises>, Memory>
+    ensures { IfOk result (λ o. o ≡ Some (adding (tree.Implies (tree.Rel RelSign.Member item.now inner.now) (tree.Rel RelSign.Member item.now outer.now) ∷ []) ∷ [])) }
+{
+    let inside = relation(alloc, RelSign::Member, item, inner)?;
+    let then = relation(alloc, RelSign::Member, item, outer)?;
+    let implication = Formula::implies(alloc, inside, then)?;
+    one(alloc, with(alloc, implication)?)
+}
+
 // SUBSETL
 fn subset_left(
     alloc: Global,
@@ -199,16 +263,22 @@ fn subset_left(
             if is_item_of(*kind, kind_of(alloc, sets, names, &[], left)?)
                 && is_item_of(*kind, kind_of(alloc, sets, names, &[], right)?)
             {
-                let inside = relation(alloc, RelSign::Member, term, left)?;
-                let then = relation(alloc, RelSign::Member, term, right)?;
-                let implication = Formula::implies(alloc, inside, then)?;
-                one(alloc, with(alloc, implication)?)
+                passed_on(alloc, term, left, right)
             } else {
                 Ok(None)
             }
         }
         _ => Ok(None),
     }
+}
+
+// The premises of EXT.
+fn both_subsets(alloc: Global, left: &Term, right: &Term) -> Result<Option<Premises>, Memory>
+    ensures { IfOk result (λ o. o ≡ Some (proving (tree.Rel RelSign.Subset left.now right.now) ∷ proving (tree.Rel RelSign.Subset right.now left.now) ∷ [])) }
+{
+    let first = proves(alloc, RelSign::Subset, left, right)?;
+    let second = proves(alloc, RelSign::Subset, right, left)?;
+    two(alloc, first, second)
 }
 
 // EXT
@@ -227,11 +297,7 @@ fn extension(
             right,
         } => {
             if is_set(kind_of(alloc, sets, sequent.names, &[], left)?) {
-                let first = relation(alloc, RelSign::Subset, left, right)?;
-                let second = relation(alloc, RelSign::Subset, right, left)?;
-                let first = Premise::proving(alloc, first);
-                let second = Premise::proving(alloc, second);
-                two(alloc, first, second)
+                both_subsets(alloc, left, right)
             } else {
                 Ok(None)
             }
@@ -281,6 +347,24 @@ fn card_not_negative(alloc: Global, set: &TermArgument) -> Result<Option<Premise
     }
 }
 
+// The hypothesis of CARDADD.
+fn size_added(alloc: Global, set: &Term, item: &Term) -> Result<Premise, Memory>
+    ensures { IfOk result (λ p. p ≡ adding (tree.Rel RelSign.Equal (tree.Card (tree.Bin TermSign.Union set.now (spec.only item.now))) (tree.Bin TermSign.Add (tree.Card set.now) (tree.Num (pos 1))) ∷ [])) }
+{
+    let more = card_with(alloc, TermSign::Union, set, item)?;
+    let fact = Formula::rel(RelSign::Equal, more, one_more(alloc, card(alloc, set)?)?);
+    with(alloc, fact)
+}
+
+// The premises of CARDADD.
+fn added_premises(alloc: Global, set: &Term, item: &Term) -> Result<Option<Premises>, Memory>
+    ensures { IfOk result (λ o. o ≡ Some (proving (tree.Not (tree.Rel RelSign.Member item.now set.now)) ∷ adding (tree.Rel RelSign.Equal (tree.Card (tree.Bin TermSign.Union set.now (spec.only item.now))) (tree.Bin TermSign.Add (tree.Card set.now) (tree.Num (pos 1))) ∷ []) ∷ [])) }
+{
+    let is_new = Premise::proving(alloc, outside(alloc, item, set)?);
+    let size = size_added(alloc, set, item)?;
+    two(alloc, is_new, size)
+}
+
 // CARDADD
 fn card_added(
     alloc: Global,
@@ -302,11 +386,25 @@ fn card_added(
     if !rel_kinds(RelSign::Member, *item_kind, *kind) {
         return Ok(None);
     }
-    let inside = relation(alloc, RelSign::Member, item, set)?;
-    let out = Formula::not(alloc, inside)?;
-    let more = card_with(alloc, TermSign::Union, set, item)?;
-    let fact = Formula::rel(RelSign::Equal, more, one_more(alloc, card(alloc, set)?)?);
-    two(alloc, Premise::proving(alloc, out), with(alloc, fact)?)
+    added_premises(alloc, set, item)
+}
+
+// The hypothesis of CARDDEL.
+fn size_removed(alloc: Global, set: &Term, item: &Term) -> Result<Premise, Memory>
+    ensures { IfOk result (λ p. p ≡ adding (tree.Rel RelSign.Equal (tree.Bin TermSign.Add (tree.Card (tree.Bin TermSign.Minus set.now (spec.only item.now))) (tree.Num (pos 1))) (tree.Card set.now) ∷ [])) }
+{
+    let rest = card_with(alloc, TermSign::Minus, set, item)?;
+    let fact = Formula::rel(RelSign::Equal, one_more(alloc, rest)?, card(alloc, set)?);
+    with(alloc, fact)
+}
+
+// The premises of CARDDEL.
+fn removed_premises(alloc: Global, set: &Term, item: &Term) -> Result<Option<Premises>, Memory>
+    ensures { IfOk result (λ o. o ≡ Some (proving (tree.Rel RelSign.Member item.now set.now) ∷ adding (tree.Rel RelSign.Equal (tree.Bin TermSign.Add (tree.Card (tree.Bin TermSign.Minus set.now (spec.only item.now))) (tree.Num (pos 1))) (tree.Card set.now) ∷ []) ∷ [])) }
+{
+    let inside = proves(alloc, RelSign::Member, item, set)?;
+    let size = size_removed(alloc, set, item)?;
+    two(alloc, inside, size)
 }
 
 // CARDDEL
@@ -330,10 +428,24 @@ fn card_removed(
     if !rel_kinds(RelSign::Member, *item_kind, *kind) {
         return Ok(None);
     }
-    let inside = relation(alloc, RelSign::Member, item, set)?;
-    let rest = card_with(alloc, TermSign::Minus, set, item)?;
-    let fact = Formula::rel(RelSign::Equal, one_more(alloc, rest)?, card(alloc, set)?);
-    two(alloc, Premise::proving(alloc, inside), with(alloc, fact)?)
+    removed_premises(alloc, set, item)
+}
+
+// The hypothesis of CARDSUB.
+fn size_within(alloc: Global, inner: &Term, outer: &Term) -> Result<Premise, Memory>
+    ensures { IfOk result (λ p. p ≡ adding (tree.Rel RelSign.AtMost (tree.Card inner.now) (tree.Card outer.now) ∷ [])) }
+{
+    let fact = Formula::rel(RelSign::AtMost, card(alloc, inner)?, card(alloc, outer)?);
+    with(alloc, fact)
+}
+
+// The premises of CARDSUB.
+fn within_premises(alloc: Global, inner: &Term, outer: &Term) -> Result<Option<Premises>, Memory>
+    ensures { IfOk result (λ o. o ≡ Some (proving (tree.Rel RelSign.Subset inner.now outer.now) ∷ adding (tree.Rel RelSign.AtMost (tree.Card inner.now) (tree.Card outer.now) ∷ []) ∷ [])) }
+{
+    let part = proves(alloc, RelSign::Subset, inner, outer)?;
+    let size = size_within(alloc, inner, outer)?;
+    two(alloc, part, size)
 }
 
 // CARDSUB
@@ -357,9 +469,7 @@ fn card_within(
     if !rel_kinds(RelSign::Subset, *kind, *outer_kind) {
         return Ok(None);
     }
-    let part = relation(alloc, RelSign::Subset, inner, outer)?;
-    let fact = Formula::rel(RelSign::AtMost, card(alloc, inner)?, card(alloc, outer)?);
-    two(alloc, Premise::proving(alloc, part), with(alloc, fact)?)
+    within_premises(alloc, inner, outer)
 }
 
 // ---- elements
