@@ -1,9 +1,10 @@
 //! The actions that build definitions and processes.
 
-ghost use Rattle.std.specs.Prelude.{◌≡◌, ◌++◌, ◌∷◌, [], IfOk};
-ghost use Rattle.cb_lex.specs.RawProcessTree as tree;
+ghost use Rattle.std.specs.Prelude.{◌≡◌, ◌++◌, ◌∷◌, [], IfOk, List, ℕ};
+ghost use Rattle.cb_grammar.specs.Signatures.{process_kind};
 ghost use Rattle.cb_amn_parse.specs.Lexemes.{Did};
-ghost use Rattle.cb_amn_parse.specs.Values.{stack_out, Takes, Turns};
+ghost use Rattle.cb_amn_parse.specs.Processes.{process_out};
+ghost use Rattle.cb_amn_parse.specs.Values.{stack_out, kinds_of, Takes, Turns};
 ghost use Rattle.cb_csp_parse.specs.Begun.{HasItsChains};
 
 use crate::Memory;
@@ -22,9 +23,7 @@ use cb_grammar::actions::{
 use cb_lex::raw::domain::RawParam;
 use cb_lex::raw::event::{RawCall, RawEvent};
 use cb_lex::raw::process::{RawProcess, RawProcessNode, RawProcesses};
-use cb_lex::raw::term::RawFormula;
 use cb_lex::raw::text::RawDefinition;
-use cb_lex::token::Place;
 use sqlite_items::Items;
 use std::alloc::Global;
 
@@ -94,14 +93,20 @@ pub(crate) fn append_definition(stack: &mut Vec<Value>) -> Result<(), Memory>
     push(stack, Value::Definitions(definitions))
 }
 
-// a chain of two
-fn chain_of(alloc: Global, first: RawProcess, second: RawProcess) -> Result<RawProcesses, Memory>
-    ensures { IfOk result (λ chain. chain ≡ first ∷ second ∷ []) }
+// the chain with one more at the end
+fn extended(mut chain: RawProcesses, process: RawProcess) -> Result<RawProcesses, Memory>
+    ensures { IfOk result (λ longer. longer ≡ chain ++ process ∷ []) }
 {
-    let mut chain = Items::new(alloc);
-    chain.push(first)?;
-    chain.push(second)?;
+    chain.push(process)?;
     Ok(chain)
+}
+
+// the chains one after the other
+fn joined(mut first: RawProcesses, second: RawProcesses) -> Result<RawProcesses, Memory>
+    ensures { IfOk result (λ chain. chain ≡ first ++ second) }
+{
+    first.append(second)?;
+    Ok(first)
 }
 
 pub(crate) fn first_two(alloc: Global, stack: &mut Vec<Value>) -> Result<(), Memory>
@@ -109,17 +114,9 @@ pub(crate) fn first_two(alloc: Global, stack: &mut Vec<Value>) -> Result<(), Mem
     ensures out { IfOk result (λ _. stack_out stack.new.items ≡ stack_out stack.old.items ++ Did FIRST_TWO ∷ []) }
     ensures turns { IfOk result (λ _. Turns stack.old.items stack.new.items FIRST_TWO) }
 {
-    let second = pop_process(stack);
-    let first = pop_process(stack);
-    push(stack, Value::Chain(chain_of(alloc, first, second)?))
-}
-
-// the chain with one more at the end
-fn extended(mut chain: RawProcesses, process: RawProcess) -> Result<RawProcesses, Memory>
-    ensures { IfOk result (λ longer. longer ≡ chain ++ process ∷ []) }
-{
-    chain.push(process)?;
-    Ok(chain)
+    let second = extended(Items::new(alloc), pop_process(stack))?;
+    let first = extended(Items::new(alloc), pop_process(stack))?;
+    push(stack, Value::Chain(joined(first, second)?))
 }
 
 pub(crate) fn append_process(stack: &mut Vec<Value>) -> Result<(), Memory>
@@ -174,23 +171,18 @@ pub(crate) fn skip(stack: &mut Vec<Value>) -> Result<(), Memory>
     push(stack, Value::Process(RawProcess { node }))
 }
 
-// `IF condition THEN then ELSE otherwise END`
-fn if_of(
+// the two processes on top
+fn pop_pair(
     alloc: Global,
-    place: Place,
-    condition: RawFormula,
-    then: RawProcess,
-    otherwise: RawProcess,
-) -> Result<RawProcess, Memory>
-    ensures { IfOk result (λ p. p ≡ tree.If place condition then otherwise) }
+    stack: &mut Vec<Value>,
+) -> Result<(Box<RawProcess>, Box<RawProcess>), Memory>
+    requires top { (r : List ℕ) × (kinds_of stack.old.items ≡ process_kind ∷ process_kind ∷ r) }
+    ensures out { IfOk result (λ pair. stack_out stack.old.items ≡ stack_out stack.new.items ++ process_out pair.0.value ++ process_out pair.1.value) }
+    ensures below { IfOk result (λ _. kinds_of stack.old.items ≡ process_kind ∷ process_kind ∷ kinds_of stack.new.items) }
 {
-    let node = RawProcessNode::If {
-        place,
-        condition,
-        then: Box::new(alloc, then)?,
-        otherwise: Box::new(alloc, otherwise)?,
-    };
-    Ok(RawProcess { node })
+    let second = Box::new(alloc, pop_process(stack))?;
+    let first = Box::new(alloc, pop_process(stack))?;
+    Ok((first, second))
 }
 
 pub(crate) fn process_if(alloc: Global, stack: &mut Vec<Value>) -> Result<(), Memory>
@@ -198,12 +190,16 @@ pub(crate) fn process_if(alloc: Global, stack: &mut Vec<Value>) -> Result<(), Me
     ensures out { IfOk result (λ _. stack_out stack.new.items ≡ stack_out stack.old.items ++ Did PROCESS_IF ∷ []) }
     ensures turns { IfOk result (λ _. Turns stack.old.items stack.new.items PROCESS_IF) }
 {
-    let otherwise = pop_process(stack);
-    let then = pop_process(stack);
+    let (then, otherwise) = pop_pair(alloc, stack)?;
     let condition = pop_formula(stack);
     let place = pop_if(stack);
-    let process = if_of(alloc, place, condition, then, otherwise)?;
-    push(stack, Value::Process(process))
+    let node = RawProcessNode::If {
+        place,
+        condition,
+        then,
+        otherwise,
+    };
+    push(stack, Value::Process(RawProcess { node }))
 }
 
 pub(crate) fn call(stack: &mut Vec<Value>) -> Result<(), Memory>
@@ -222,12 +218,9 @@ pub(crate) fn prefix(alloc: Global, stack: &mut Vec<Value>) -> Result<(), Memory
     ensures out { IfOk result (λ _. stack_out stack.new.items ≡ stack_out stack.old.items ++ Did PREFIX ∷ []) }
     ensures turns { IfOk result (λ _. Turns stack.old.items stack.new.items PREFIX) }
 {
-    let process = pop_process(stack);
+    let process = Box::new(alloc, pop_process(stack))?;
     let event = pop_event(stack);
-    let node = RawProcessNode::Prefix {
-        event,
-        process: Box::new(alloc, process)?,
-    };
+    let node = RawProcessNode::Prefix { event, process };
     push(stack, Value::Process(RawProcess { node }))
 }
 
