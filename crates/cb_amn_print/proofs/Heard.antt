@@ -10,11 +10,11 @@ use Rattle.cb_engine.specs.declared.Symbol.{Symbol}
 use Rattle.cb_engine.specs.declared.Symbol.TheVariants.{Take, Keep, Act, Part, Gives, Then, Line}
 use Rattle.cb_engine.specs.declared.Terminal.{Terminal}
 use Rattle.cb_engine.specs.declared.Item.{Item}
-use Rattle.cb_engine.specs.Rules.{Rules, Runs, kept, group, admits, stands, chosen}
+use Rattle.cb_engine.specs.Rules.{Rules, Runs, Spells, kept, group, admits, stands, chosen}
 use Rattle.cb_engine.specs.Rules.Runs.{ends, takes, keeps, acts, keys, others, goes_on}
 use Rattle.cb_engine.specs.Tables.{body, find_line, body_of, either, keyed_in, rules_of}
 use Rattle.cb_grammar.specs.declared.table.TheConstants.{GRAMMAR}
-use Rattle.cb_grammar.specs.Misreadings.{language}
+use Rattle.cb_grammar.specs.Misreadings.{language, symbols_of}
 use Rattle.cb_grammar.specs.declared.parts.Part.{Part as LanguagePart}
 use Rattle.cb_grammar.specs.Parts.{number_of}
 use Rattle.cb_grammar.specs.Classes.{keyword_class}
@@ -30,9 +30,9 @@ use Rattle.cb_amn_print.proofs.Premises.{AllTokens}
 
 -- ---- parts without PROOF and without opened names
 
--- a class that is neither that of PROOF nor that of an opened name which may not stand
+-- a class that is neither that of PROOF nor that of an opened name which may not stand, nor that of the end
 abbrev usual : ℕ → Bool
-usual c = not (eqb c 31) && not (eqb c 119)
+usual c = not (eqb c 31) && (not (eqb c 119) && not (eqb c 3))
 
 -- the parts of texts with proofs
 abbrev with_proofs : List ℕ
@@ -98,12 +98,13 @@ found_usual (Then x y ∷ g) n c l u w e = found_usual g n c l u w e
 
 -- a class whose group is usual is so too
 grouped_usual : (d : ℕ) → usual (group d) ≡ true → usual d ≡ true
-grouped_usual d e = go (eqb d 31) (eqb d 119) refl refl
+grouped_usual d e = go (eqb d 31) (eqb d 119) (eqb d 3) refl refl refl
   where
-    go : (a b : Bool) → eqb d 31 ≡ a → eqb d 119 ≡ b → (not a && not b) ≡ true
-    go true b s t = let q : d ≡ 31 = same d 31 s in absurd (let h : usual (group 31) ≡ true = rw q at e in cc)
-    go false true s t = let q : d ≡ 119 = same d 119 t in absurd (let h : usual (group 119) ≡ true = rw q at e in cc)
-    go false false s t = refl
+    go : (a b c : Bool) → eqb d 31 ≡ a → eqb d 119 ≡ b → eqb d 3 ≡ c → (not a && (not b && not c)) ≡ true
+    go true b c s t u = let q : d ≡ 31 = same d 31 s in absurd (let h : usual (group 31) ≡ true = rw q at e in cc)
+    go false true c s t u = let q : d ≡ 119 = same d 119 t in absurd (let h : usual (group 119) ≡ true = rw q at e in cc)
+    go false false true s t u = let q : d ≡ 3 = same d 3 u in absurd (let h : usual (group 3) ≡ true = rw q at e in cc)
+    go false false false s t u = refl
 
 admitted_usual : (c d : ℕ) → usual c ≡ true → admits c d ≡ true → usual d ≡ true
 admitted_usual c d u e = go (eqb c d) refl e
@@ -215,3 +216,12 @@ spelled_fine p depth opened ts taken out w a q =
     let u = runs_usual q.read.whole.spelled (rw w refl) in
     let h = terminals_hear opened ts 0 ts taken refl a u in
     subst (λ (x : List Lexeme). AllFine opened x) q.told (items_fine opened ts q.read.whole.spelled h)
+
+last_usual : (ts : List Terminal) (t : Terminal) → AllUsual (ts ++ t ∷ []) → usual t.class ≡ true
+last_usual [] t u = u.0
+last_usual (x ∷ ts) t u = last_usual ts t u.1
+
+-- such a part never goes up to the end of the text
+pub no_end : (p : LanguagePart) (ts : List Terminal) (t : Terminal) (out : List Item) → is_without (number_of p) ≡ true → t.class ≡ 3 → Spells language (symbols_of p) (ts ++ t ∷ []) out → ⊥
+unfolding language
+no_end p ts t out w e m = let u : usual t.class ≡ true = last_usual ts t (runs_usual m (rw w refl)) in let v : usual 3 ≡ true = rw e at u in cc

@@ -1,5 +1,6 @@
 pub mod Fronts
 pub mod Scripts
+pub mod Ended
 pub mod Pieces
 pub mod Lines
 pub mod Spelled
@@ -10,3 +11,5 @@ pub mod WholePieces
 pub mod MachineSpelled
 pub mod WholeSpelled
 pub mod PrintedBack
+pub mod OutAside
+pub mod ReadAgain

@@ -21,6 +21,7 @@ use Rattle.cb_amn_print.specs.Formulas.{formula_text, term_text}
 use Rattle.cb_amn_print.specs.Printed.{unplaced, SpellsBack, IsPrintedBack}
 use Rattle.cb_amn_print.proofs.Scripts.{Piece, text_of, told_of, items, cut_of}
 use Rattle.cb_amn_print.proofs.Pieces.{formula_script, term_script, formula-text, term-text, formula-told, term-told}
+use Rattle.cb_amn_print.proofs.Ended.{ended_told}
 use Rattle.cb_amn_print.proofs.Lines.{Good}
 use Rattle.cb_amn_print.proofs.Spelled.{Laws, AllFine, formula_good, term_good}
 use Rattle.cb_amn_print.proofs.Premises.{lexed_read, dropped_read}
@@ -37,7 +38,7 @@ spells_back p opened pieces text out t o g =
       ends = q.ends;
       cut = subst (λ (x : List ℕ). Lexes x start (Ok (q.tokens ++ q.last ∷ []))) t q.cut;
       spelled = subst (λ (ts : List Terminal). Spells language (symbols_of p) ts (items opened 0 pieces)) (sym (q.classes 0)) (g.spelled.runs 0);
-      told = q.told 0 q.tokens refl ∙ o;
+      told = ended_told opened pieces 0 q.tokens (q.last ∷ []) (q.told 0 q.tokens refl) ∙ o;
     }
 
 -- what the pieces of each value are good for

@@ -26,9 +26,16 @@ pub record SpellsBack (p : Part) (opened : Bool) (bytes : List ℕ) (out : List 
   pub ends : last.sort ≡ sort.Finish
   pub cut : Lexes bytes start (Ok (tokens ++ last ∷ []))
   pub spelled : Spells language (symbols_of p) (terminals opened 0 tokens) items
-  pub told : map unplaced (lexemes tokens items) ≡ map unplaced out
+  pub told : map unplaced (lexemes (tokens ++ last ∷ []) items) ≡ map unplaced out
 
 -- what is printed of a value that some tokens of some text spell, spells it again
 abbrev pub IsPrintedBack : {X : Type 0} → (X → List ℕ) → (X → List Lexeme) → Part → Type 0
 IsPrintedBack {X = X} text_of out p =
     (bytes : List ℕ) (all : List Token) (depth : ℕ) (opened : Bool) (from to : ℕ) (x : X) → Lexes bytes start (Ok all) → SpellsFrom p depth opened all from to (out x) → SpellsBack p opened (text_of x) (out x)
+
+-- What is printed of a value that some tokens of some text spell, spells it again; and whatever value is read of the
+-- printed bytes is this one, places aside.
+abbrev pub IsReadAgain : {X : Type 0} → (X → List ℕ) → (X → List Lexeme) → (X → X) → Part → Type 0
+IsReadAgain {X = X} text_of out aside p =
+    (bytes : List ℕ) (all : List Token) (depth : ℕ) (opened : Bool) (from to : ℕ) (x : X) → Lexes bytes start (Ok all) → SpellsFrom p depth opened all from to (out x) →
+    SpellsBack p opened (text_of x) (out x) × ((ts : List Token) (deep end : ℕ) (y : X) → Lexes (text_of x) start (Ok ts) → SpellsFrom p deep opened ts 0 end (out y) → aside y ≡ aside x)

@@ -4,3 +4,4 @@ pub mod Keyed
 pub mod Spelled
 pub mod Ended
 pub mod PrintedBack
+pub mod ReadAgain

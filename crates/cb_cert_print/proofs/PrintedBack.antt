@@ -26,6 +26,7 @@ use Rattle.cb_amn_parse.specs.Proofs.{proofs_out}
 use Rattle.cb_amn_parse.specs.Spelling.{IsSpelled}
 use Rattle.cb_amn_print.proofs.Fronts.{IsToken}
 use Rattle.cb_amn_print.proofs.Scripts.{Piece, terms, items, silent, and_then, cut_of}
+use Rattle.cb_amn_print.proofs.Ended.{ended_told}
 use Rattle.cb_amn_print.proofs.Lines.{Good, plain, numbered}
 use Rattle.cb_amn_print.proofs.Premises.{AllTokens, lexed_read, dropped_read}
 use Rattle.cb_amn_print.proofs.Spelled.{Laws, Fine, AllFine}
@@ -35,7 +36,7 @@ use Rattle.cb_cert_print.specs.Proofs.{proof_text}
 use Rattle.cb_cert_print.specs.Printed.{SpellsProofs, ArePrintedBack}
 use Rattle.cb_cert_print.proofs.Pieces.{proofs_script, proofs-text, proofs-told}
 use Rattle.cb_cert_print.proofs.Spelled.{proofs_good}
-use Rattle.cb_cert_print.proofs.Ended.{with_end, ended_classes, ended_items, ended_told, opened_by_proof, opened_at_end}
+use Rattle.cb_cert_print.proofs.Ended.{with_end, ended_classes, ended_items, opened_by_proof, opened_at_end}
 
 -- ---- what some text spells may be printed
 
@@ -86,7 +87,7 @@ spells_back laws opened ps g =
       cut = subst (λ (x : List ℕ). Lexes x start (Ok all)) (proofs-text ps) q.cut;
       spelled = subst (λ (ts : List Terminal). Spells language (symbols_of language_part.Proofs) ts (items true 0 p)) (sym (opened_anyway opened ps all classes ∙ classes))
           (subst (λ (x : List Item). Spells language (symbols_of language_part.Proofs) (terms true 0 (with_end p)) x) (ended_items p 0) run);
-      told = ended_told p 0 q.tokens (q.last ∷ []) (q.told 0 q.tokens refl) ∙ proofs-told ps;
+      told = ended_told true p 0 q.tokens (q.last ∷ []) (q.told 0 q.tokens refl) ∙ proofs-told ps;
     }
 
 pub printed_back : ProofsAreFull → Laws → ArePrintedBack

@@ -1,9 +1,10 @@
-//! What is printed is read again. The function does nothing: its contract is the law.
+//! What is printed is read again. The functions do nothing: their contracts are the laws.
 
-ghost use Rattle.cb_cert_print.specs.Printed.{ArePrintedBack};
+ghost use Rattle.cb_cert_print.specs.Printed.{ArePrintedBack, AreReadAgain};
 
 use cb_cert_shapes::laws as shapes;
 use cb_grammar::laws as grammar;
+use cb_lex::laws as lexer;
 use cb_written::laws as written;
 
 /// What is printed of proofs that some text spells, one behind another, spells these proofs again, places aside.
@@ -18,4 +19,12 @@ pub fn proofs_are_printed_back()
     grammar::product_is_written();
     written::unit_is_written();
     shapes::proofs_are_full();
+}
+
+/// What is printed of proofs that some text spells, one behind another, is read again as these proofs, places aside.
+pub fn proofs_are_read_again()
+    ensures { AreReadAgain }
+{
+    proofs_are_printed_back();
+    lexer::lexes_once();
 }

@@ -1,3 +1,4 @@
 pub mod Derives
 pub mod Laws
+pub mod Told
 pub mod Ways

@@ -3,4 +3,5 @@
 
 pub mod laws;
 pub mod premises;
+pub mod sequents;
 pub mod walk;

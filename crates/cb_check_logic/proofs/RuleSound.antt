@@ -160,12 +160,12 @@ module _ (sizes : List ℕ) (q : Claim) (kinded : Kinded sizes q) where
   cut_sound : (a : FormulaArgument) (ps : List Premise) → formula_fits sizes q.names a ≡ true → spec.cut a ≡ Some ps → Carry sizes q ps
   cut_sound formula.Unclear ps fit e = absurd (no_premises e)
   cut_sound (formula.Formula f) ps fit e = subst (Carry sizes q) (same_Some _ ps e)
-      (two (Some f) [] None (f ∷ []) fit tt kinded.goal (fit, tt) (λ look gives hyps first second. second (first tt, tt)))
+      (two (Some f) [] None (f ∷ []) (and_parts _ _ fit).1 tt kinded.goal ((and_parts _ _ fit).1, tt) (λ look gives hyps first second. second (first tt, tt)))
 
   cases_sound : (a : FormulaArgument) (ps : List Premise) → formula_fits sizes q.names a ≡ true → spec.cases a ≡ Some ps → Carry sizes q ps
   cases_sound formula.Unclear ps fit e = absurd (no_premises e)
   cases_sound (formula.Formula f) ps fit e = subst (Carry sizes q) (same_Some _ ps e)
-      (two None (f ∷ []) None (Not f ∷ []) kinded.goal (fit, tt) kinded.goal (fit, tt) (λ look gives hyps first second.
+      (two None (f ∷ []) None (Not f ∷ []) kinded.goal ((and_parts _ _ fit).1, tt) kinded.goal ((and_parts _ _ fit).1, tt) (λ look gives hyps first second.
       classic look (λ no. no (second ((λ holds. no (first (holds, tt))), tt)))))
 
   -- ---- the goal
@@ -282,7 +282,7 @@ module _ (sizes : List ℕ) (q : Claim) (kinded : Kinded sizes q) where
 
   bool_cases_sound : (a : TermArgument) (ps : List Premise) → term_fits sizes q.names a ≡ true → spec.bool_cases a ≡ Some ps → Carry sizes q ps
   bool_cases_sound (term.Term t kind.Truth) ps fit e =
-      let et = is_kind_tells kind.Truth (kind_of sizes q.names [] t) fit in
+      let et = is_kind_tells _ kind.Truth (kind_of sizes q.names [] t) fit in
       let fit_at : (b : Bool) → Fits (is_truth t b) = λ b. subst (λ o. both_fit (rel_kinds Equal) o (Some kind.Truth) ≡ true) (sym et) refl in
       subst (Carry sizes q) (same_Some _ ps e) (two None (is_truth t true ∷ []) None (is_truth t false ∷ []) kinded.goal (fit_at true, tt) kinded.goal (fit_at false, tt) (λ look gives hyps first second.
       valued sizes look q.names gives t kind.Truth et (H look q.goal) (classic look) (λ v hv of_truth.

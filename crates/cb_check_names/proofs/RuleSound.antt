@@ -132,7 +132,7 @@ module _ (sizes : List ℕ) (q : Claim) (kinded : Kinded sizes q) where
       by_goal : (g : FormulaTree) → q.goal ≡ g → exist_right (term.Term t l) g ≡ Some ps → Carry sizes q ps
       by_goal (Exist x k f) i e =
           let p = only_tells (counts_as l k) _ ps e in
-          let et = is_kind_tells l (kind_of sizes q.names [] t) fit in
+          let et = is_kind_tells _ l (kind_of sizes q.names [] t) fit in
           let fit : Fits (Exist x k f) = subst Fits i kinded.goal in
           subst (Carry sizes q) p.1 (proves (open_formula t f) (fits_open sizes q.names t l k et (counts_below l k p.0) f fit) (λ look gives hyps holds.
           subst (H look) (sym i) (at_term t l k f et p.0 look gives (H look (Exist x k f)) (holds_stable sizes look (Exist x k f) []) (λ v of_k alike none.
@@ -147,7 +147,7 @@ module _ (sizes : List ℕ) (q : Claim) (kinded : Kinded sizes q) where
       by_formula : (o : Option FormulaTree) → hypothesis q.hypotheses h ≡ o → all_left (term.Term t l) o ≡ Some ps → Carry sizes q ps
       by_formula (Some (Every x k f)) i e =
           let p = only_tells (counts_as l k) _ ps e in
-          let et = is_kind_tells l (kind_of sizes q.names [] t) fit in
+          let et = is_kind_tells _ l (kind_of sizes q.names [] t) fit in
           let is = hypothesis_is h (Every x k f) i in
           subst (Carry sizes q) p.1 (adds (open_formula t f) (fits_open sizes q.names t l k et (counts_below l k p.0) f is.0) (λ look gives hyps C st go.
           at_term t l k f et p.0 look gives C st (λ v of_k alike. go (alike.1 (is.1 look hyps v of_k)))))

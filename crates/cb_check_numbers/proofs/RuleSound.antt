@@ -114,8 +114,8 @@ module _ (sizes : List ℕ) (q : Claim) (kinded : Kinded sizes q) where
   split_sound : (a b : TermArgument) (ps : List Premise) → (term_fits sizes q.names a && term_fits sizes q.names b) ≡ true → split a b ≡ Some ps → Carry sizes q ps
   split_sound (term.Term s kind.Integer) (term.Term t kind.Integer) ps fit e =
       let both = and_parts (term_fits sizes q.names (term.Term s kind.Integer)) (term_fits sizes q.names (term.Term t kind.Integer)) fit in
-      let es = is_kind_tells kind.Integer (kind_of sizes q.names [] s) both.0 in
-      let et = is_kind_tells kind.Integer (kind_of sizes q.names [] t) both.1 in
+      let es = is_kind_tells _ kind.Integer (kind_of sizes q.names [] s) both.0 in
+      let et = is_kind_tells _ kind.Integer (kind_of sizes q.names [] t) both.1 in
       subst (Carry sizes q) (same_Some _ _ e) (
         (adds_all_kinded (Rel Less s t ∷ []) (rel_fits Less s t es et refl, tt), (adds_all_kinded (Rel Equal s t ∷ []) (rel_fits Equal s t es et refl, tt), (adds_all_kinded (Rel Less t s ∷ []) (rel_fits Less t s et es refl, tt), tt))),
         (λ w look gives hyps.
@@ -258,7 +258,7 @@ module _ (sizes : List ℕ) (q : Claim) (kinded : Kinded sizes q) where
   div_mod_sound : (a : TermArgument) (d : ℤ) (ps : List Premise) → term_fits sizes q.names a ≡ true → div_mod a d ≡ Some ps → Carry sizes q ps
   div_mod_sound (term.Term t kind.Integer) (pos n) ps fit e =
       let p = only_tells (int_lt (pos 0) (pos n)) _ ps e in
-      let et = is_kind_tells kind.Integer (kind_of sizes q.names [] t) fit in
+      let et = is_kind_tells _ kind.Integer (kind_of sizes q.names [] t) fit in
       let fs = quotient_facts t (Num (pos n)) in
       subst (Carry sizes q) p.1 (
         (adds_all_kinded fs (quotient_fits t (pos n) et), tt),
@@ -270,8 +270,8 @@ module _ (sizes : List ℕ) (q : Claim) (kinded : Kinded sizes q) where
   mul_sign_sound : (a b : TermArgument) (ps : List Premise) → (term_fits sizes q.names a && term_fits sizes q.names b) ≡ true → mul_sign a b ≡ Some ps → Carry sizes q ps
   mul_sign_sound (term.Term s kind.Integer) (term.Term t kind.Integer) ps fit e =
       let both = and_parts (term_fits sizes q.names (term.Term s kind.Integer)) (term_fits sizes q.names (term.Term t kind.Integer)) fit in
-      let es = is_kind_tells kind.Integer (kind_of sizes q.names [] s) both.0 in
-      let et = is_kind_tells kind.Integer (kind_of sizes q.names [] t) both.1 in
+      let es = is_kind_tells _ kind.Integer (kind_of sizes q.names [] s) both.0 in
+      let et = is_kind_tells _ kind.Integer (kind_of sizes q.names [] t) both.1 in
       let zero : TermTree = Num (pos 0) in
       let product = bin_has Mul s t es et refl in
       subst (Carry sizes q) (same_Some _ _ e) (

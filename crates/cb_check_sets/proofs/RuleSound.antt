@@ -186,7 +186,7 @@ module _ (sizes : List ℕ) (q : Claim) (kinded : Kinded sizes q) where
           let both = and_parts (is_item_of k (kind_of sizes q.names [] s)) (is_item_of k (kind_of sizes q.names [] u)) p.0 in
           let in_s = item_tells k (kind_of sizes q.names [] s) both.0 in
           let in_u = item_tells k (kind_of sizes q.names [] u) both.1 in
-          let et = is_kind_tells k (kind_of sizes q.names [] t) fit in
+          let et = is_kind_tells _ k (kind_of sizes q.names [] t) fit in
           let is = hypothesis_is h (Rel Subset s u) i in
           subst (Carry sizes q) p.1 (adds (Implies (Rel Member t s) (Rel Member t u))
           (and_from _ _ (rel_fits sizes q.names Member t s k in_s.0 et in_s.1 in_s.2) (rel_fits sizes q.names Member t u k in_u.0 et in_u.1 in_u.2))
@@ -219,7 +219,7 @@ module _ (sizes : List ℕ) (q : Claim) (kinded : Kinded sizes q) where
   not_negative_sound (term.Term s k) ps fit e =
       let p = only_tells (is_set (Some k)) _ ps e in
       let set = set_tells sizes k p.0 in
-      let es = is_kind_tells k (kind_of sizes q.names [] s) fit in
+      let es = is_kind_tells _ k (kind_of sizes q.names [] s) fit in
       subst (Carry sizes q) p.1 (adds _ (card_fits sizes q.names s k es set.1) (λ look gives hyps. size_not_negative sizes look q.names gives s k es set.0))
 
   added_sound : (a b : TermArgument) (ps : List Premise) → (term_fits sizes q.names a && term_fits sizes q.names b) ≡ true → card_added a b ≡ Some ps → Carry sizes q ps
@@ -230,8 +230,8 @@ module _ (sizes : List ℕ) (q : Claim) (kinded : Kinded sizes q) where
   added_sound (term.Term s k) (term.Term t l) ps fit e =
       let p = only_tells (rel_kinds Member l k) _ ps e in
       let both = and_parts (term_fits sizes q.names (term.Term s k)) (term_fits sizes q.names (term.Term t l)) fit in
-      let es = is_kind_tells k (kind_of sizes q.names [] s) both.0 in
-      let et = is_kind_tells l (kind_of sizes q.names [] t) both.1 in
+      let es = is_kind_tells _ k (kind_of sizes q.names [] s) both.0 in
+      let et = is_kind_tells _ l (kind_of sizes q.names [] t) both.1 in
       let inside = rel_fits sizes q.names Member t s l k et es p.0 in
       subst (Carry sizes q) p.1 (proves_adds (Not (Rel Member t s)) _ inside (added_fits sizes q.names s t k l es et p.0) (λ look gives. size_added sizes look q.names gives s t inside))
 
@@ -243,8 +243,8 @@ module _ (sizes : List ℕ) (q : Claim) (kinded : Kinded sizes q) where
   removed_sound (term.Term s k) (term.Term t l) ps fit e =
       let p = only_tells (rel_kinds Member l k) _ ps e in
       let both = and_parts (term_fits sizes q.names (term.Term s k)) (term_fits sizes q.names (term.Term t l)) fit in
-      let es = is_kind_tells k (kind_of sizes q.names [] s) both.0 in
-      let et = is_kind_tells l (kind_of sizes q.names [] t) both.1 in
+      let es = is_kind_tells _ k (kind_of sizes q.names [] s) both.0 in
+      let et = is_kind_tells _ l (kind_of sizes q.names [] t) both.1 in
       let inside = rel_fits sizes q.names Member t s l k et es p.0 in
       subst (Carry sizes q) p.1 (proves_adds (Rel Member t s) _ inside (removed_fits sizes q.names s t k l es et p.0) (λ look gives. size_removed sizes look q.names gives s t inside))
 
@@ -256,8 +256,8 @@ module _ (sizes : List ℕ) (q : Claim) (kinded : Kinded sizes q) where
   within_sound (term.Term s k) (term.Term t l) ps fit e =
       let p = only_tells (rel_kinds Subset k l) _ ps e in
       let both = and_parts (term_fits sizes q.names (term.Term s k)) (term_fits sizes q.names (term.Term t l)) fit in
-      let es = is_kind_tells k (kind_of sizes q.names [] s) both.0 in
-      let et = is_kind_tells l (kind_of sizes q.names [] t) both.1 in
+      let es = is_kind_tells _ k (kind_of sizes q.names [] s) both.0 in
+      let et = is_kind_tells _ l (kind_of sizes q.names [] t) both.1 in
       let m = is_some_tells (common_set k l) p.0 in
       let part = rel_fits sizes q.names Subset s t k l es et p.0 in
       subst (Carry sizes q) p.1 (proves_adds (Rel Subset s t) _ part (sizes_fit sizes q.names s t k l m.0 es et m.1) (λ look gives. size_within sizes look q.names gives s t part))
@@ -286,7 +286,7 @@ module _ (sizes : List ℕ) (q : Claim) (kinded : Kinded sizes q) where
 
   elements_sound : (a : TermArgument) (ps : List Premise) → term_fits sizes q.names a ≡ true → elements sizes a ≡ Some ps → Carry sizes q ps
   elements_sound (term.Term t (kind.Elem set)) ps fit e =
-      let et = is_kind_tells (kind.Elem set) (kind_of sizes q.names [] t) fit in
+      let et = is_kind_tells _ (kind.Elem set) (kind_of sizes q.names [] t) fit in
       subst (Carry sizes q) (same_Some _ ps e) (
         each_kinded t set 0 (size_of_set sizes set) et (omega arith),
         (λ w look gives hyps. valued sizes look q.names gives t (kind.Elem set) et (H look q.goal) (holds_stable sizes look q.goal []) (λ v hv kv.

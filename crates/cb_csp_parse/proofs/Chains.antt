@@ -26,6 +26,7 @@ use Rattle.cb_engine.specs.Kinds.{Effect, effect_or, kinds, signature, all_lead}
 use Rattle.cb_engine.specs.Leading.{tested, led}
 use Rattle.cb_engine.specs.Deciding.{both}
 use Rattle.cb_grammar.specs.declared.actions.TheConstants.{APPEND_MACHINE, APPEND_CONTROLLER, FIRST_TWO, EXTERNAL, INTERNAL}
+use Rattle.cb_grammar.specs.declared.parts.Part.{Part}
 use Rattle.cb_grammar.specs.declared.parts.Part.TheVariants as part
 use Rattle.cb_grammar.specs.declared.table.TheConstants.{GRAMMAR}
 use Rattle.cb_grammar.specs.Misreadings.{language, IsRead}
@@ -311,17 +312,26 @@ balanced ts (Do n ∷ items) k end e o =
 all_fit : all_lead signatures GRAMMAR ≡ true
 all_fit = refl
 
-read_fits : (ts : List Token) (taken : ℕ) (items : List Item) → IsRead part.Text 0 false ts taken items → kinds signatures items [] ≡ Some (kinds_left part.Text)
+read_fits : (p : Part) (depth : ℕ) (opened : Bool) (ts : List Token) (taken : ℕ) (items : List Item) → IsRead p depth opened ts taken items → kinds signatures items [] ≡ Some (kinds_left p)
 unfolding language
-read_fits ts taken items read =
-    led signatures (signature false [] (kinds_left part.Text) []) (tested signatures GRAMMAR all_fit) read.whole.spelled [] (part_fits part.Text)
+read_fits p depth opened ts taken items read =
+    led signatures (signature false [] (kinds_left p) []) (tested signatures GRAMMAR all_fit) read.whole.spelled [] (part_fits p)
 
 pub no_short : (ts : List Token) (taken : ℕ) (x : RawText) → StandsAlone x → IsSpelled part.Text 0 false ts taken (text_out x) → controller_shorts x.controllers ≡ 0
 no_short ts taken x alone s =
-    let b : chains (kinds_left part.Text) + lasts (lexemes ts s.items) ≡ chains [] + firsts (lexemes ts s.items) = balanced ts s.items [] (kinds_left part.Text) (read_fits ts taken s.items s.read) refl in
+    let b : chains (kinds_left part.Text) + lasts (lexemes ts s.items) ≡ chains [] + firsts (lexemes ts s.items) = balanced ts s.items [] (kinds_left part.Text) (read_fits part.Text 0 false ts taken s.items s.read) refl in
     let l = text_lacks x (none_short x alone) in
     let f : firsts (lexemes ts s.items) ≡ firsts (text_out x) = ap firsts s.told in
     let g : lasts (lexemes ts s.items) ≡ lasts (text_out x) = ap lasts s.told in
+    omega (arith, b, l, f, g)
+
+pub no_short_within : (depth : ℕ) (opened : Bool) (ts : List Token) (taken : ℕ) (c : RawController) → IsSpelled part.Controller depth opened ts taken (controller_out c) → definition_shorts c.definitions ≡ 0
+no_short_within depth opened ts taken c s =
+    let b : chains (kinds_left part.Controller) + lasts (lexemes ts s.items) ≡ chains [] + firsts (lexemes ts s.items) =
+    balanced ts s.items [] (kinds_left part.Controller) (read_fits part.Controller depth opened ts taken s.items s.read) refl in
+    let l = controller_lacks c in
+    let f : firsts (lexemes ts s.items) ≡ firsts (controller_out c) = ap firsts s.told in
+    let g : lasts (lexemes ts s.items) ≡ lasts (controller_out c) = ap lasts s.told in
     omega (arith, b, l, f, g)
 
 -- the stack while items are taken: what is left of them ends all chains that are on it

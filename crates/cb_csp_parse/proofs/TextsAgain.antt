@@ -323,7 +323,7 @@ walk_definitions_on (x ∷ xs) front l h e =
     let b = walk_definitions_on xs (front ++ x ∷ []) l h (right (process_shorts x.process) (definition_shorts xs) e) in
     rw (walk_append (definition_entry x) (flat_map definition_entry xs), a, b) (rw append_assoc refl)
 
-walk_controller : (c : RawController) (l : List Built) (h : List Made) → definition_shorts c.definitions ≡ 0 → walk (controller_out c) (Two l h) ≡ Two l (Controller c ∷ h)
+pub walk_controller : (c : RawController) (l : List Built) (h : List Made) → definition_shorts c.definitions ≡ 0 → walk (controller_out c) (Two l h) ≡ Two l (Controller c ∷ h)
 walk_controller c l h e =
     let x = walk_definitions_on c.definitions [] (Terms c.start.arguments ∷ Word (Named c.start.name) ∷ Names c.machines ∷ Word (Named c.name) ∷ l) h e in
     simp (walk_append, walk_names c.machines, walk_terms c.start.arguments, x) refl
@@ -342,7 +342,7 @@ walk_controllers_on (x ∷ xs) front l h e =
     let b = walk_controllers_on xs (front ++ x ∷ []) l h (right (definition_shorts x.definitions) (controller_shorts xs) e) in
     rw (walk_append (controller_entry x) (flat_map controller_entry xs), a, b) (rw append_assoc refl)
 
-walk_channels_on : (xs front : List RawChannel) (l : List Built) (h : List Made) → walk (flat_map channel_entry xs) (Two l (Channels front ∷ h)) ≡ Two l (Channels (front ++ xs) ∷ h)
+pub walk_channels_on : (xs front : List RawChannel) (l : List Built) (h : List Made) → walk (flat_map channel_entry xs) (Two l (Channels front ∷ h)) ≡ Two l (Channels (front ++ xs) ∷ h)
 walk_channels_on [] front l h = rw append-nil refl
 walk_channels_on (x ∷ xs) front l h = simp (walk_append, walk_names x.values, walk_condition x.condition, walk_channels_on xs, append_assoc) refl
 

@@ -86,7 +86,7 @@ pub fn write_text<K: Sink>(sink: &mut K, bytes: &[u8]) -> Result<(), Failed>
     ensures whole { OnOk result (Appends (K.written sink.old) (K.written sink.new) bytes.now) }
     ensures part { OnErr result (CutShort (K.written sink.old) (K.written sink.new) bytes.now) }
     ensures cause { HasCause (K.faults sink.old) (K.faults sink.new) result }
-    ensures sure { K.sure sink.old (length bytes.now) → K.faults sink.new ≡ K.faults sink.old }
+    ensures sure { (n : ℕ) → length bytes.now ≤ n → K.sure sink.old n → K.faults sink.new ≡ K.faults sink.old }
 {
     let mut done = 0;
     'pieces: while done < bytes.len() {

@@ -18,7 +18,7 @@ use Rattle.cb_term.specs.Values.{AreItems, IsItem, item, bin, neg, card, size_of
 use Rattle.cb_spec.specs.Domains.{Within, AllWithin}
 use Rattle.cb_spec.specs.FormValues.{IsOfForm}
 use Rattle.cb_spec.specs.Forms as form
-use Rattle.cb_spec.specs.Forms.{Form, hull, joined, is_some_form, single, left_set, with_both, product, divides, bin_form, neg_form, card_form, IsSmall, literal_or_one}
+use Rattle.cb_spec.specs.Forms.{Form, hull, joined_form, is_some_form, single, left_set, with_both, product, divides, bin_form, neg_form, card_form, IsSmall, literal_or_one}
 use Rattle.cb_eval.specs.Evaluation.{fits, kept, is_ascending, given}
 use Rattle.cb_eval.specs.ClosedTruth.{kept_set}
 use Rattle.cb_eval.specs.TypedIn.{AreSmallSets}
@@ -187,7 +187,7 @@ module _ (sizes : List ℕ) where
   plain : (a b f : Form) → is_set a ≡ true → is_set b ≡ true → is_set f ≡ true → ((x : ℤ) → ItemOf a x → ItemOf f x) → ((x : ℤ) → ItemOf b x → ItemOf f x) → (IsSmall f → IsSmall b) → Joins a b f
   plain a b f p q r left right small = record { left_is = p; right_is = q; whole_is = r; left = left; right = right; small = small }
 
-  joins : (a b f : Form) → joined a b ≡ Some f → Joins a b f
+  joins : (a b f : Form) → joined_form a b ≡ Some f → Joins a b f
   joins (form.Numbers lo hi) (form.Numbers lo' hi') f e = subst (Joins (form.Numbers lo hi) (form.Numbers lo' hi')) (some_is _ f e) (hull_joins lo hi lo' hi')
   joins form.TruthSet form.TruthSet f e = subst (Joins form.TruthSet form.TruthSet) (some_is _ f e) (plain _ _ _ refl refl refl (λ x w. w) (λ x w. w) (λ s. tt))
   joins (form.Elements j) (form.Elements k) f e = by (j == k) refl e
@@ -251,10 +251,10 @@ module _ (sizes : List ℕ) where
     pub whole_is : is_set f ≡ true
     pub keeps : (x : ℤ) → ItemOf a x → ItemOf f x
 
-  plain_left : (a b f : Form) → (if is_some_form (joined a b) then Some a else None) ≡ Some f → Lefts a b f
-  plain_left a b f e = by (joined a b) refl e
+  plain_left : (a b f : Form) → (if is_some_form (joined_form a b) then Some a else None) ≡ Some f → Lefts a b f
+  plain_left a b f e = by (joined_form a b) refl e
     where
-      by : (o : Option Form) → joined a b ≡ o → (if is_some_form o then Some a else None) ≡ Some f → Lefts a b f
+      by : (o : Option Form) → joined_form a b ≡ o → (if is_some_form o then Some a else None) ≡ Some f → Lefts a b f
       by None at e = cc
       by (Some g) at e =
           let j = joins a b g at in
@@ -267,7 +267,7 @@ module _ (sizes : List ℕ) where
   lefts form.Empty (form.Elements k) f e = subst (Lefts form.Empty (form.Elements k)) (some_is _ f e) (record { left_is = refl; right_is = refl; whole_is = refl; keeps = λ x o. absurd o })
   lefts a b f e = plain_left a b f e
 
-  union_of : (a b f : Form) (u w : Value) → joined a b ≡ Some f → IsOfForm sizes a u → IsOfForm sizes b w → IsOfForm sizes f (bin Union u w)
+  union_of : (a b f : Form) (u w : Value) → joined_form a b ≡ Some f → IsOfForm sizes a u → IsOfForm sizes b w → IsOfForm sizes f (bin Union u w)
   union_of a b f u w e o p =
       let j = joins a b f e in
       let s = set_tells a u j.left_is o in
@@ -441,9 +441,9 @@ module _ (sizes : List ℕ) where
         ap (λ b. if b then Some (value.Set xs) else None) (and_from _ _ (ascending_holds xs (up_of f xs o)) (le_nat (length xs) 256 (set_length f xs s o)))
 
     pub card_of : (a f : Form) (u : Value) → card_form a ≡ Some f → IsSmall a → IsOfForm sizes a u → IsOfForm sizes f (card u)
-    card_of a f u e s o = by (joined a a) refl e
+    card_of a f u e s o = by (joined_form a a) refl e
       where
-        by : (p : Option Form) → joined a a ≡ p → (if is_some_form p then Some (form.Number (pos 0) (pos 256)) else None) ≡ Some f → IsOfForm sizes f (card u)
+        by : (p : Option Form) → joined_form a a ≡ p → (if is_some_form p then Some (form.Number (pos 0) (pos 256)) else None) ≡ Some f → IsOfForm sizes f (card u)
         by None at e = cc
         by (Some g) at e =
             let t = set_tells a u (joins a a g at).left_is o in
@@ -468,7 +468,7 @@ module _ (sizes : List ℕ) where
   single_of a f u e o = cc
 
   -- one item more
-  pub listed_of : (a s b f : Form) (u : Value) (xs : List ℤ) → single a ≡ Some s → joined s b ≡ Some f → IsOfForm sizes a u → IsOfForm sizes b (value.Set xs) →
+  pub listed_of : (a s b f : Form) (u : Value) (xs : List ℤ) → single a ≡ Some s → joined_form s b ≡ Some f → IsOfForm sizes a u → IsOfForm sizes b (value.Set xs) →
       IsOfForm sizes f (value.Set (insert (item u) xs))
   listed_of a s b f u xs e j o p =
       let h = joins s b f j in
@@ -479,5 +479,5 @@ module _ (sizes : List ℕ) where
       let all : ItemsOf b xs = subst (ItemsOf b) same t.all in
       of_set f (insert (item u) xs) h.whole_is (insert_ascends (item u) xs up) (items_insert f (item u) xs (h.left (item u) q.1) (items_more b f xs h.right all))
 
-  pub joined_small : (s b f : Form) → joined s b ≡ Some f → IsSmall f → IsSmall b
+  pub joined_small : (s b f : Form) → joined_form s b ≡ Some f → IsSmall f → IsSmall b
   joined_small s b f e = (joins s b f e).small

@@ -6,4 +6,5 @@ pub mod WalkLemmas
 pub mod QuantifierLemmas
 pub mod TellLemmas
 pub mod FormLemmas
+pub mod ToldLemmas
 pub mod TypedLemmas

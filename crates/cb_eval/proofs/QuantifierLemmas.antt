@@ -17,7 +17,7 @@ use Rattle.cb_term.specs.Tree.{TermTree, Bound, Num, Bin, Elems, Truths, Formula
 use Rattle.cb_term.specs.Values.{Look, IsOf, same_truth}
 use Rattle.cb_term.specs.Holds.{Holds}
 use Rattle.cb_term.proofs.ValueLemmas.{same_kind_tells, same_truth_tells}
-use Rattle.cb_spec.specs.Domains.{kind_of, AllWithin, In, typing}
+use Rattle.cb_spec.specs.Domains.{kind_of_domain, AllWithin, In, typing}
 use Rattle.cb_spec.specs.TypedTerms.{literal, premise_of}
 use Rattle.cb_spec.proofs.DomainLemmas.{domain_typing}
 use Rattle.cb_eval.specs.ClosedTruth.{with_one}
@@ -80,11 +80,11 @@ walkable_tells sizes (Some c) d e = by (is_walkable sizes c) e
 
 -- ---- the domain that is found
 
-of_kind_tells : (kind : Kind) (c d : Domain) → of_kind kind c ≡ Some d → (c ≡ d) × (kind_of d ≡ kind)
-of_kind_tells kind c d e = by (same_kind (kind_of c) kind) refl e
+of_kind_tells : (kind : Kind) (c d : Domain) → of_kind kind c ≡ Some d → (c ≡ d) × (kind_of_domain d ≡ kind)
+of_kind_tells kind c d e = by (same_kind (kind_of_domain c) kind) refl e
   where
-    by : (b : Bool) → same_kind (kind_of c) kind ≡ b → (if b then Some c else None) ≡ Some d → (c ≡ d) × (kind_of d ≡ kind)
-    by true f e = let same : c ≡ d = some_is c d e in (same, ap kind_of (sym same) ∙ same_kind_tells (kind_of c) kind f)
+    by : (b : Bool) → same_kind (kind_of_domain c) kind ≡ b → (if b then Some c else None) ≡ Some d → (c ≡ d) × (kind_of_domain d ≡ kind)
+    by true f e = let same : c ≡ d = some_is c d e in (same, ap kind_of_domain (sym same) ∙ same_kind_tells (kind_of_domain c) kind f)
     by false f e = cc
 
 literal_tells : (t : TermTree) (n : ℤ) → literal t ≡ Some n → t ≡ Num n
@@ -108,7 +108,7 @@ innermost_tells : (t : TermTree) → is_innermost t ≡ true → t ≡ Bound 0
 innermost_tells (Bound j) e = ap Bound (eqb-true j 0 e)
 innermost_tells t e = cc
 
-kind_meets : (d e : Domain) → kind_of (meet d e) ≡ kind_of d
+kind_meets : (d e : Domain) → kind_of_domain (meet d e) ≡ kind_of_domain d
 kind_meets (domain.Range lo hi) (domain.Range lo' hi') = refl
 kind_meets (domain.Subsets lo hi) (domain.Subsets lo' hi') = refl
 kind_meets d e = refl
@@ -118,10 +118,10 @@ module _ (sizes : List ℕ) where
   abbrev some_name : Name
   some_name = record { text = []; number = 0 }
 
-  of_its_kind : (d : Domain) (v : Value) → In sizes d v → IsOf sizes (kind_of d) v
+  of_its_kind : (d : Domain) (v : Value) → In sizes d v → IsOf sizes (kind_of_domain d) v
   of_its_kind d v i = ((domain_typing sizes d (λ _. v) some_name).0 i).0
 
-  conjunct_in : (look : Look) (env : List Value) (d : Domain) (v : Value) → IsOf sizes (kind_of d) v → Holds sizes look (typing (Bound 0) d) (v ∷ env) → In sizes d v
+  conjunct_in : (look : Look) (env : List Value) (d : Domain) (v : Value) → IsOf sizes (kind_of_domain d) v → Holds sizes look (typing (Bound 0) d) (v ∷ env) → In sizes d v
   conjunct_in look env (domain.Range lo hi) v of h = (domain_typing sizes (domain.Range lo hi) (λ _. v) some_name).1 (of, h)
   conjunct_in look env domain.Truth v of h = (domain_typing sizes domain.Truth (λ _. v) some_name).1 (of, h)
   conjunct_in look env (domain.Elems set) v of h = (domain_typing sizes (domain.Elems set) (λ _. v) some_name).1 (of, h)
@@ -140,7 +140,7 @@ module _ (sizes : List ℕ) where
   in_both d e v a b = a
 
   pub record Found (kind : Kind) (d : Domain) (f : FormulaTree) : Type 0 where
-    pub kind_is : kind_of d ≡ kind
+    pub kind_is : kind_of_domain d ≡ kind
     pub holds_in : (look : Look) (env : List Value) (v : Value) → IsOf sizes kind v → Holds sizes look f (v ∷ env) → In sizes d v
 
   met_tells : (o p : Option Domain) (d : Domain) (R : Type 0) → meet_found o p ≡ Some d → ((c : Domain) → o ≡ Some c → c ≡ d → R) → ((c : Domain) → p ≡ Some c → c ≡ d → R) →

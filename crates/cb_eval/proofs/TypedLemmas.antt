@@ -18,10 +18,10 @@ use Rattle.cb_term.specs.Kinds.{same_base, same_kind}
 use Rattle.cb_term.specs.Sets.{insert, upwards}
 use Rattle.cb_term.specs.Tree.{TermTree, Var, Bound, Num, Truth, Elem, Bin, Neg, Card, Listed, Elems, Truths, Test, TermTrees, End, More, FormulaTree, True, False, Rel, Not, And, Or, Implies, Iff, Every, Exist}
 use Rattle.cb_term.specs.Values.{Look, item, bin, neg, card, rel, same_truth, size_of_set}
-use Rattle.cb_spec.specs.Domains.{kind_of, AllWithin, In, typing}
+use Rattle.cb_spec.specs.Domains.{kind_of_domain, AllWithin, In, typing}
 use Rattle.cb_spec.specs.FormValues.{IsOfForm}
 use Rattle.cb_spec.specs.Forms as form
-use Rattle.cb_spec.specs.Forms.{Form, form_of_domain, single, joined, with_both, bin_form, neg_form, card_form, IsSmall}
+use Rattle.cb_spec.specs.Forms.{Form, form_of_domain, single, joined_form, with_both, bin_form, neg_form, card_form, IsSmall}
 use Rattle.cb_spec.specs.Runs.{HasConjunct}
 use Rattle.cb_spec.specs.Sound.{Agrees}
 use Rattle.cb_spec.specs.TypedTerms.{Scope, then_form, literal, IsChoosable, IsDomain, premise_of, form_of, form_of_listed, is_membership, is_free_range, Unless, TypedTerm, TypedTerms, TypedFormula}
@@ -69,7 +69,7 @@ meet_left sizes (domain.Range lo hi) (domain.Range lo' hi') v i = absurd i
 meet_left sizes (domain.Subsets lo hi) (domain.Subsets lo' hi') v i = absurd i
 meet_left sizes a b v i = i
 
-meet_right : (sizes : List ℕ) (a b : Domain) (v : Value) → kind_of a ≡ kind_of b → In sizes (meet a b) v → In sizes b v
+meet_right : (sizes : List ℕ) (a b : Domain) (v : Value) → kind_of_domain a ≡ kind_of_domain b → In sizes (meet a b) v → In sizes b v
 meet_right sizes (domain.Range lo hi) (domain.Range lo' hi') (value.Int x) e i = (omega (arith, ints, clamps, i.0), omega (arith, ints, clamps, i.1))
 meet_right sizes (domain.Subsets lo hi) (domain.Subsets lo' hi') (value.Set xs) e i = (i.0, all lo hi lo' hi' xs i.1)
   where
@@ -101,7 +101,7 @@ walk_left sizes (domain.Subsets lo hi) (domain.Subsets lo' hi') e =
     le_nat _ _ (omega (arith, nat_of _ _ e, span_part lo hi (int_max lo lo') (int_min hi hi') (omega (arith, ints, clamps)) (omega (arith, ints, clamps))))
 walk_left sizes a b e = e
 
-walk_right : (sizes : List ℕ) (a b : Domain) → kind_of a ≡ kind_of b → is_walkable sizes b ≡ true → is_walkable sizes (meet a b) ≡ true
+walk_right : (sizes : List ℕ) (a b : Domain) → kind_of_domain a ≡ kind_of_domain b → is_walkable sizes b ≡ true → is_walkable sizes (meet a b) ≡ true
 walk_right sizes (domain.Range lo hi) (domain.Range lo' hi') k e =
     le_nat _ _ (omega (arith, nat_of _ _ e, span_part lo' hi' (int_max lo lo') (int_min hi hi') (omega (arith, ints, clamps)) (omega (arith, ints, clamps))))
 walk_right sizes (domain.Subsets lo hi) (domain.Subsets lo' hi') k e =
@@ -123,10 +123,10 @@ same_kind_self (kind.Elem k) = eq-eqb k k refl
 same_kind_self (kind.SetOf b) = same_base_self b
 same_kind_self kind.EmptySet = refl
 
-of_its_own_kind : (kind : Kind) (d : Domain) → kind_of d ≡ kind → of_kind kind d ≡ Some d
-of_its_own_kind kind d e = ap (λ b. if b then Some d else None) (subst (λ k. same_kind (kind_of d) k ≡ true) e (same_kind_self (kind_of d)))
+of_its_own_kind : (kind : Kind) (d : Domain) → kind_of_domain d ≡ kind → of_kind kind d ≡ Some d
+of_its_own_kind kind d e = ap (λ b. if b then Some d else None) (subst (λ k. same_kind (kind_of_domain d) k ≡ true) e (same_kind_self (kind_of_domain d)))
 
-conjunct_gives : (kind : Kind) (d : Domain) → kind_of d ≡ kind → domain_in kind (typing (Bound 0) d) ≡ Some d
+conjunct_gives : (kind : Kind) (d : Domain) → kind_of_domain d ≡ kind → domain_in kind (typing (Bound 0) d) ≡ Some d
 conjunct_gives kind (domain.Range lo hi) e = of_its_own_kind kind (domain.Range lo hi) e
 conjunct_gives kind domain.Truth e = of_its_own_kind kind domain.Truth e
 conjunct_gives kind (domain.Elems set) e = of_its_own_kind kind (domain.Elems set) e
@@ -141,7 +141,7 @@ module _ (sizes : List ℕ) where
     pub within : (v : Value) → In sizes found v → In sizes d v
     pub walks : is_walkable sizes d ≡ true → is_walkable sizes found ≡ true
 
-  covers : (kind : Kind) (d : Domain) (f : FormulaTree) → HasConjunct (typing (Bound 0) d) f → kind_of d ≡ kind → Covers kind d f
+  covers : (kind : Kind) (d : Domain) (f : FormulaTree) → HasConjunct (typing (Bound 0) d) f → kind_of_domain d ≡ kind → Covers kind d f
   covers kind d (And f g) (inl h) e = by (covers kind d f h e) (domain_in kind g) refl
     where
       by : Covers kind d f → (o : Option Domain) → domain_in kind g ≡ o → Covers kind d (And f g)
@@ -157,7 +157,7 @@ module _ (sizes : List ℕ) where
       by : Covers kind d g → (o : Option Domain) → domain_in kind f ≡ o → Covers kind d (And f g)
       by c None at = record { found = c.found; is = (λ i. meet_found (at i) (c.is i)); within = c.within; walks = c.walks }
       by c (Some b) at =
-          let same : kind_of b ≡ kind_of c.found = (found_domain sizes kind f b at).kind_is ∙ sym (found_domain sizes kind g c.found c.is).kind_is in
+          let same : kind_of_domain b ≡ kind_of_domain c.found = (found_domain sizes kind f b at).kind_is ∙ sym (found_domain sizes kind g c.found c.is).kind_is in
           record {
             found = meet b c.found;
             is = (λ i. meet_found (at i) (c.is i));
@@ -332,7 +332,7 @@ module _ (sizes : List ℕ) where
             form_of_listed sizes scope inner ts ≡ Some f → IsSmall f → ToldItems env ts f
         terms_told inner env End f a t e s = record { items_are = []; worked = refl; of_form = subst (λ g. IsOfForm sizes g (value.Set [])) (some_is _ f e) tt }
         terms_told inner env (More x ts) f a t e s =
-            both_forms (then_form (form_of sizes scope inner x) single) (form_of_listed sizes scope inner ts) joined f (ToldItems env (More x ts) f) e (λ g h eg eh j.
+            both_forms (then_form (form_of sizes scope inner x) single) (form_of_listed sizes scope inner ts) joined_form f (ToldItems env (More x ts) f) e (λ g h eg eh j.
             one_form (form_of sizes scope inner x) single g (ToldItems env (More x ts) f) eg (λ k ek es.
             let u = term_told false inner env x k a t.0 ek in
             let xs = terms_told inner env ts h a t.1 eh (joined_small sizes g h f j s) in

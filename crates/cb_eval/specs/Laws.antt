@@ -13,6 +13,7 @@ use Rattle.cb_spec.specs.Sound.{Agrees}
 use Rattle.cb_spec.specs.TypedTerms.{Scope, IsChoosable, IsDomain, form_of, TypedTerm}
 use Rattle.cb_term.specs.declared.name.Name.{Name}
 use Rattle.cb_eval.specs.ClosedTruth.{closed_truth}
+use Rattle.cb_eval.specs.Told.{IsTold}
 use Rattle.cb_eval.specs.TypedIn.{AreSmallSets}
 use Rattle.cb_eval.specs.Walks.{count_of, value_number, is_walkable}
 
@@ -20,6 +21,10 @@ use Rattle.cb_eval.specs.Walks.{count_of, value_number, is_walkable}
 abbrev pub ClosedTruthIsTruth : Type 0
 ClosedTruthIsTruth = (sizes : List ℕ) (look : Look) (env : List Value) (f : FormulaTree) (b : Bool) → closed_truth sizes f ≡ Some b →
     IsTrue b ↔ Holds sizes look f env
+
+-- and it is told so exactly where no name, no loose variable and no quantifier stands in it, and its numbers and sets are small
+abbrev pub ClosedTruthIsTold : Type 0
+ClosedTruthIsTold = (sizes : List ℕ) (f : FormulaTree) → IsTold sizes f ↔ ((b : Bool) × (closed_truth sizes f ≡ Some b))
 
 -- each number below their count gives a value of the domain, each value of the domain has such a number, and only one
 abbrev pub DomainIsWalked : Type 0

@@ -12,7 +12,7 @@ use Rattle.cb_term.specs.declared.value.Value.TheVariants as value
 use Rattle.cb_term.specs.Kinds.{same_kind}
 use Rattle.cb_term.specs.Tree.{FormulaTree, TermTree, Bound, Bin, Elems, Truths, Rel, And}
 use Rattle.cb_term.specs.Values.{size_of_set}
-use Rattle.cb_spec.specs.Domains.{kind_of}
+use Rattle.cb_spec.specs.Domains.{kind_of_domain}
 use Rattle.cb_spec.specs.TypedTerms.{literal}
 use Rattle.cb_eval.specs.ClosedTruth.{with_one, with_two}
 
@@ -61,7 +61,7 @@ meet_found (Some d) None = Some d
 meet_found (Some d) (Some e) = Some (meet d e)
 
 abbrev pub of_kind : Kind → Domain → Option Domain
-of_kind kind d = if same_kind (kind_of d) kind then Some d else None
+of_kind kind d = if same_kind (kind_of_domain d) kind then Some d else None
 
 -- the domain of which the relation to the term makes a value one
 abbrev pub typing_domain : RelSign → TermTree → Option Domain

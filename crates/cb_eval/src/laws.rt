@@ -1,10 +1,15 @@
 //! Laws of evaluation. Each is the contract of a function with nothing to do: a caller calls it for its fact.
 
-ghost use Rattle.cb_eval.specs.Laws.{ClosedTruthIsTruth, DomainIsWalked, ChoosableIsWalkable, TypedValuesAreOfForm};
+ghost use Rattle.cb_eval.specs.Laws.{ClosedTruthIsTruth, ClosedTruthIsTold, DomainIsWalked, ChoosableIsWalkable, TypedValuesAreOfForm};
 
 /// A formula whose truth is told by its numbers and sets alone has that truth whatever names stand for.
 pub fn closed_truth_is_truth()
     ensures { ClosedTruthIsTruth }
+{}
+
+/// Such a truth is told exactly of a formula without names, loose variables and quantifiers whose numbers and sets are small.
+pub fn closed_truth_is_told()
+    ensures { ClosedTruthIsTold }
 {}
 
 /// Each number below their count gives a value of the domain, each value of the domain has such a number, and only one.

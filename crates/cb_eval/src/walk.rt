@@ -117,7 +117,7 @@ pub fn value_at(
 
 // The kind of the domain's values.
 fn kind_of(domain: Domain) -> Kind
-    ensures { result ≡ domains.kind_of domain }
+    ensures { result ≡ domains.kind_of_domain domain }
 {
     match domain {
         Domain::Range { .. } => Kind::Integer,

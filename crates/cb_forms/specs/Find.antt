@@ -2,6 +2,10 @@
 use Rattle.std.specs.Prelude.{ℕ, nat_eq, List, [], ◌∷◌, ◌++◌, Bool, Option, Some, None, if◌then◌else◌, bytes_eq, is_some, option_map, slice_get}
 use Rattle.std.specs.List.{list_any}
 
+-- the second spelling of a name: no name ends with a blank
+abbrev pub spelled_again : List ℕ → List ℕ
+spelled_again x = x ++ 32 ∷ []
+
 module _ {M : Type 0} where
   -- what the first of the name stands for
   abbrev pub found : List ℕ → List (List ℕ × M) → Option M
@@ -11,6 +15,14 @@ module _ {M : Type 0} where
   -- with the name, where it is not there already
   abbrev pub inside : List ℕ → M → List (List ℕ × M) → List (List ℕ × M)
   inside x m es = if is_some (found x es) then es else es ++ (x, m) ∷ []
+
+  -- the spelling of a name that is added: the second, where the name is there already
+  unfoldable pub free_spelling : List ℕ → List (List ℕ × M) → List ℕ
+  free_spelling x es = if is_some (found x es) then spelled_again x else x
+
+  -- with the name in that spelling
+  abbrev pub beside : List ℕ → M → List (List ℕ × M) → List (List ℕ × M)
+  beside x m es = inside (free_spelling x es) m es
 
   -- with the name, which stands for this even where it is there already
   abbrev pub put : List ℕ → M → List (List ℕ × M) → List (List ℕ × M)

@@ -5,7 +5,7 @@ use Rattle.cb_lex.specs.declared.raw.sign.RawOperator.{RawOperator}
 use Rattle.cb_lex.specs.declared.raw.sign.RawOperator.TheVariants.{Plus, Minus, Times, Divide, Mod, UpTo, Union, Intersection}
 use Rattle.cb_lex.specs.declared.raw.sign.RawRelation.{RawRelation}
 use Rattle.cb_lex.specs.declared.raw.sign.RawRelation.TheVariants as relation
-use Rattle.cb_spec.specs.Forms.{Form, Number, Truth, Element, Numbers, TruthSet, Elements, Empty, joined, single, left_set, is_some_form, with_both, may_relate}
+use Rattle.cb_spec.specs.Forms.{Form, Number, Truth, Element, Numbers, TruthSet, Elements, Empty, joined_form, single, left_set, is_some_form, with_both, may_relate}
 use Rattle.cb_term.specs.declared.sign.RelSign.TheVariants.{Equal}
 use Rattle.cb_forms.specs.declared.span.Span.{Span}
 use Rattle.cb_forms.specs.declared.form.Form.{Form as Known}
@@ -99,18 +99,18 @@ binary_form Times d a b = Some (number (scaled (span_of a) (span_of b)))
 binary_form Divide d a b = Some (number (divided_by (span_of a) d))
 binary_form Mod d a b = Some (number (rests_by (span_of a) d))
 binary_form UpTo d a b = Some (Numbers (span_of a).lo (span_of b).hi)
-binary_form Union d a b = set_form joined a b
+binary_form Union d a b = set_form joined_form a b
 binary_form Intersection d a b = set_form left_set a b
 
 -- a set with one more item; an item that does not suit it is left out
 abbrev pub with_item : Form → Option Form → Form
 with_item done None = done
-with_item done (Some a) = or_form (with_both (Some done) (single a) joined) done
+with_item done (Some a) = or_form (with_both (Some done) (single a) joined_form) done
 
 -- the item is no set, and of the kind of the items before it
 abbrev pub suits : Form → Option Form → Bool
 suits done None = true
-suits done (Some a) = is_item a && is_some_form (with_both (Some done) (single a) joined)
+suits done (Some a) = is_item a && is_some_form (with_both (Some done) (single a) joined_form)
 
 -- a term that is not as it has to be
 abbrev pub wrong : (Form → Bool) → Option Form → Place → Faults
@@ -131,7 +131,7 @@ operand_fault operator a p b q = Both (wrong is_number a p) (wrong is_number b q
 abbrev pub may_hold : Option Form → Option Form → Bool
 may_hold a None = true
 may_hold None (Some b) = is_set b
-may_hold (Some a) (Some b) = is_set b && (is_set a || is_some_form (with_both (Some b) (single a) joined))
+may_hold (Some a) (Some b) = is_set b && (is_set a || is_some_form (with_both (Some b) (single a) joined_form))
 
 -- a side of the wrong kind
 abbrev pub side_fault : RawRelation → Option Form → Place → Option Form → Place → Faults

@@ -1,7 +1,7 @@
 //! What is known of a term before anything runs.
 
 ghost use Rattle.std.specs.Prelude.{◌≡◌};
-ghost use Rattle.cb_spec.specs.Forms.{hull as hull_of, joined, single, left_set, with_both, is_some_form, may_relate};
+ghost use Rattle.cb_spec.specs.Forms.{hull as hull_of, joined_form, single, left_set, with_both, is_some_form, may_relate};
 ghost use Rattle.cb_term.specs.declared.sign.RelSign.TheVariants.{Equal as equal};
 ghost use Rattle.cb_forms.specs.Kinds.{form_of, maybe_form, span_of, number, is_number, is_set, is_item, is_number_or_set, may_be, may_meet, or_form, set_form, minus_form, with_item, suits, may_hold};
 ghost use Rattle.cb_forms.specs.Spans.{negated};
@@ -42,7 +42,7 @@ fn hull(s: &Span, t: &Span) -> Form
 
 /// What has the elements of both, where both are sets of one kind.
 pub fn join(a: &Form, b: &Form) -> Option<Form>
-    ensures { maybe_form result ≡ joined (form_of a.now) (form_of b.now) }
+    ensures { maybe_form result ≡ joined_form (form_of a.now) (form_of b.now) }
 {
     match (a, b) {
         (Form::Numbers(s), Form::Numbers(t)) => Some(hull(s, t)),
@@ -172,7 +172,7 @@ pub fn meet(a: &Option<Form>, b: &Option<Form>) -> bool
 
 // What two sets hold together, or the first of them.
 fn union_or(a: &Form, b: &Form) -> Form
-    ensures { form_of result ≡ or_form (joined (form_of a.now) (form_of b.now)) (form_of a.now) }
+    ensures { form_of result ≡ or_form (joined_form (form_of a.now) (form_of b.now)) (form_of a.now) }
 {
     match join(a, b) {
         Some(c) => c,
@@ -191,7 +191,7 @@ fn left_or(a: &Form, b: &Form) -> Form
 
 /// The form of `a \/ b`.
 pub fn union(a: &Option<Form>, b: &Option<Form>) -> Option<Form>
-    ensures { maybe_form result ≡ set_form joined (maybe_form a.now) (maybe_form b.now) }
+    ensures { maybe_form result ≡ set_form joined_form (maybe_form a.now) (maybe_form b.now) }
 {
     match (a, b) {
         (None, _) => None,
@@ -231,7 +231,7 @@ pub fn difference(a: &Option<Form>, b: &Option<Form>) -> Option<Form>
 
 // The set of one such value and those of the set before.
 fn join_item(done: &Form, a: &Form) -> Option<Form>
-    ensures { maybe_form result ≡ with_both (Some (form_of done.now)) (single (form_of a.now)) joined }
+    ensures { maybe_form result ≡ with_both (Some (form_of done.now)) (single (form_of a.now)) joined_form }
 {
     match set_of(a) {
         Some(one) => join(done, &one),

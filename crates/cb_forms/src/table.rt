@@ -1,7 +1,7 @@
 //! Tables of names.
 
-ghost use Rattle.std.specs.Prelude.{◌≡◌, [], OnOk, take, length, option_copied};
-ghost use Rattle.cb_forms.specs.Find.{found, inside, put, with_common, name_in};
+ghost use Rattle.std.specs.Prelude.{◌≡◌, [], IfOk, OnOk, take, length, option_copied};
+ghost use Rattle.cb_forms.specs.Find.{found, spelled_again, inside, beside, put, with_common, name_in};
 
 use cb_lex::Memory;
 use indexmap::IndexMap;
@@ -22,6 +22,15 @@ impl<M: Copy + Drop> Model for Table<M> {
     ghost use Rattle.cb_forms.specs.View.{entries_of};
 
     ghost view = { λ t. entries_of t.names.entries };
+}
+
+// The second spelling of a name, as no name is spelled.
+fn second_spelling(alloc: Global, name: &[u8]) -> Result<Vec<u8>, Memory>
+    ensures { IfOk result (λ w. w.items ≡ spelled_again name.now) }
+{
+    let mut spelling = Vec::from_slice(alloc, name)?;
+    spelling.push(b' ')?;
+    Ok(spelling)
 }
 
 impl<M: Copy + Drop> Table<M> {
@@ -58,6 +67,26 @@ impl<M: Copy + Drop> Table<M> {
         let key = Vec::from_slice(alloc, name)?;
         self.names.insert(key, meaning)?;
         Ok(())
+    }
+
+    /// What the name stands for in its second spelling.
+    pub fn find_again(&self, alloc: Global, name: &[u8]) -> Result<Option<M>, Memory>
+        ensures { IfOk result (λ m. m ≡ found (spelled_again name.now) self.now) }
+    {
+        let spelling = second_spelling(alloc, name)?;
+        Ok(self.find(spelling.as_slice()))
+    }
+
+    /// Adds the name, in its second spelling where it is there already.
+    #[tactic(auto, unfolding(crate::specs::Find::free_spelling))]
+    pub fn enter_beside(&mut self, alloc: Global, name: &[u8], meaning: M) -> Result<(), Memory>
+        ensures { OnOk result (self.new ≡ beside name.now meaning self.old) }
+    {
+        if self.find(name).is_none() {
+            return Ok(self.enter(alloc, name, meaning)?);
+        }
+        let spelling = second_spelling(alloc, name)?;
+        Ok(self.enter(alloc, spelling.as_slice(), meaning)?)
     }
 
     /// Adds the name, which stands for this even where it is there already.

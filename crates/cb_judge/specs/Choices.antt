@@ -121,6 +121,7 @@ lacks (Some c) = is_empty c.domain
 abbrev pub many : Domain → ℕ → Bool
 many (domain.Range lo hi) size = reaches (pos 65536) lo hi
 many (domain.Subsets lo hi) size = reaches (pos 16) lo hi
+many (domain.Elems set) size = nat_lt 65536 size
 many (domain.ElemSubsets set) size = nat_lt 16 size
 many d size = false
 
@@ -129,13 +130,14 @@ has_many None = false
 has_many (Some c) = many c.domain c.size
 
 -- a domain of sets that may have more than 256 elements
-abbrev pub big : Domain → Bool
-big (domain.Subsets lo hi) = reaches (pos 256) lo hi
-big d = false
+abbrev pub big : Domain → ℕ → Bool
+big (domain.Subsets lo hi) size = reaches (pos 256) lo hi
+big (domain.ElemSubsets set) size = nat_lt 256 size
+big d size = false
 
 abbrev pub has_big : Option Choice → Bool
 has_big None = false
-has_big (Some c) = big c.domain
+has_big (Some c) = big c.domain c.size
 
 abbrev pub known_of_domain : Domain → Known
 known_of_domain (domain.Range lo hi) = known.Number (record { lo = lo; hi = hi })

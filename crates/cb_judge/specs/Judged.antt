@@ -1,5 +1,5 @@
 -- Forms and faults of terms and formulas as they are written.
-use Rattle.std.specs.Prelude.{ℕ, ℤ, pos, neg_ℤ, Bool, true, false, not, ◌&&◌, List, length, Option, Some, None, is_none, if◌then◌else◌}
+use Rattle.std.specs.Prelude.{ℕ, ℤ, pos, neg_ℤ, Bool, true, false, not, ◌&&◌, List, length, Option, Some, None, if◌then◌else◌}
 use Rattle.cb_lex.specs.declared.token.Place.{Place}
 use Rattle.cb_lex.specs.declared.raw.name.RawName.{RawName}
 use Rattle.cb_lex.specs.declared.raw.sign.RawAtom.{RawAtom}
@@ -13,7 +13,7 @@ use Rattle.cb_spec.specs.Forms.{Form}
 use Rattle.cb_spec.specs.Forms as form
 use Rattle.cb_forms.specs.declared.form.Form.{Form as Known}
 use Rattle.cb_forms.specs.Faults.{Faults, Nowhere, Both, fault_if}
-use Rattle.cb_forms.specs.Find.{found, inside}
+use Rattle.cb_forms.specs.Find.{found, beside}
 use Rattle.cb_forms.specs.Kinds.{number, span_of, is_number, is_set, binary_form, with_item, suits, wrong, operand_fault, side_fault, divisor_fault, size_fault}
 use Rattle.cb_forms.specs.Spans.{negated}
 use Rattle.cb_judge.specs.declared.domain.Choice.{Choice}
@@ -21,7 +21,7 @@ use Rattle.cb_judge.specs.declared.names.Entry.{Entry}
 use Rattle.cb_judge.specs.declared.names.Meaning.{Meaning}
 use Rattle.cb_judge.specs.declared.names.Meaning.TheVariants as meaning
 use Rattle.cb_judge.specs.declared.names.View.{View}
-use Rattle.cb_judge.specs.Meanings.{Names, known_form, double_fault}
+use Rattle.cb_judge.specs.Meanings.{Names, known_form, is_unknown, double_fault}
 use Rattle.cb_judge.specs.Choices.{maxint, typing_in, form_or_nought, choice_faults}
 
 -- a binary term's sign, and any other term's first token
@@ -70,7 +70,7 @@ entry m p = record { meaning = m; place = p }
 
 -- the names under a quantifier, whose variable is told by the number of names around it
 abbrev pub under : RawName → Option Choice → Names → Names
-under x c names = inside x.text (entry (meaning.Bound (length names) (form_or_nought c)) x.place) names
+under x c names = beside x.text (entry (meaning.Bound (length names) (form_or_nought c)) x.place) names
 
 -- a name that is declared with what its formula says of it
 abbrev pub chosen_fault : Names → RawName → Option Choice → Faults
@@ -98,7 +98,7 @@ module _ (v : View) where
     -- the term stands directly to the right of `:`, `/:` or `<:`, or it does not
     pub fault_in : Names → (on_right : Bool) → RawTermTree → Faults
     fault_in names on_right (Number n p) = size_fault (form_in names (Number n p)) p
-    fault_in names on_right (Name x) = Both (fault_if (is_none (form_in names (Name x))) 2 x.place) (size_fault (form_in names (Name x)) x.place)
+    fault_in names on_right (Name x) = Both (fault_if (is_unknown v (found x.text names)) 2 x.place) (size_fault (form_in names (Name x)) x.place)
     fault_in names on_right (Atom a p) = size_unless on_right (form_in names (Atom a p)) p
     fault_in names on_right (Binary o p a b) =
         Both (Both (fault_in names false a) (fault_in names false b))

@@ -1,11 +1,11 @@
 -- What names stand for, and which of them are known at a place.
-use Rattle.std.specs.Prelude.{ℕ, ℤ, Bool, List, Option, Some, None, if◌then◌else◌}
+use Rattle.std.specs.Prelude.{ℕ, ℤ, Bool, true, false, not, ◌&&◌, List, Option, Some, None, is_none, if◌then◌else◌}
 use Rattle.cb_lex.specs.declared.token.Place.{Place}
 use Rattle.cb_lex.specs.declared.raw.name.RawName.{RawName}
 use Rattle.cb_spec.specs.Forms.{Form, Number, Element, Elements}
 use Rattle.cb_forms.specs.declared.form.Form.{Form as Known}
-use Rattle.cb_forms.specs.Faults.{Faults, Nowhere, At, later_of}
-use Rattle.cb_forms.specs.Find.{found, is_in}
+use Rattle.cb_forms.specs.Faults.{Faults, Nowhere, At, Both, later_of}
+use Rattle.cb_forms.specs.Find.{found, spelled_again, is_in}
 use Rattle.cb_forms.specs.Kinds.{form_of}
 use Rattle.cb_judge.specs.declared.names.Entry.{Entry}
 use Rattle.cb_judge.specs.declared.names.Meaning.{Meaning}
@@ -30,6 +30,15 @@ abbrev pub known_form : View → Option Entry → Option Form
 known_form v None = None
 known_form v (Some e) = form_of_meaning v e.meaning
 
+-- a name that is bound to nothing that is declared: its form is not known
+abbrev pub is_unformed : Meaning → Bool
+is_unformed meaning.Unformed = true
+is_unformed m = false
+
+abbrev pub is_unknown : View → Option Entry → Bool
+is_unknown v None = true
+is_unknown v (Some e) = is_none (form_of_meaning v e.meaning) && not (is_unformed e.meaning)
+
 abbrev pub number_of_meaning : View → Meaning → Option ℤ
 number_of_meaning v (meaning.Constant owner n) = if is_in owner v.sees then Some n else None
 number_of_meaning v m = None
@@ -53,5 +62,10 @@ abbrev pub double_at : Place → Option Entry → Faults
 double_at p None = Nowhere
 double_at p (Some e) = At 1 (later_of p e.place)
 
+-- two declarations of one name, and where a local stands beside the other, of it too
+abbrev pub double_with : Names → RawName → Option Entry → Faults
+double_with names x None = Nowhere
+double_with names x (Some e) = Both (At 1 (later_of x.place e.place)) (double_at x.place (found (spelled_again x.text) names))
+
 abbrev pub double_fault : Names → RawName → Faults
-double_fault names x = double_at x.place (found x.text names)
+double_fault names x = double_with names x (found x.text names)

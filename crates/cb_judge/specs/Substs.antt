@@ -8,7 +8,7 @@ use Rattle.cb_term.specs.declared.kind.Kind.TheVariants as kind
 use Rattle.cb_term.specs.declared.kind.Base.TheVariants as base
 use Rattle.cb_spec.specs.Forms.{Form, Number, Truth, Element, Numbers, TruthSet, Elements, Empty, form_of_domain, is_of_kind}
 use Rattle.cb_forms.specs.Faults.{Faults, Nowhere, At, Both, fault_if}
-use Rattle.cb_forms.specs.Find.{found, inside, put}
+use Rattle.cb_forms.specs.Find.{found, beside, put}
 use Rattle.cb_forms.specs.Kinds.{form_of, is_set, may_meet, size_fault}
 use Rattle.cb_judge.specs.declared.domain.Choice.{Choice as Chosen}
 use Rattle.cb_judge.specs.declared.names.Entry.{Entry}
@@ -82,7 +82,7 @@ chosen_form (Some c) = Some (form_of_domain c.domain)
 
 -- the names in an ANY
 abbrev pub within : RawName → Option Chosen → Names → Names
-within x c names = inside x.text (entry (meaning.Local (form_or_nought c)) x.place) names
+within x c names = beside x.text (entry (meaning.Local (form_or_nought c)) x.place) names
 
 module _ (v : View) where
   abbrev mutual

@@ -260,6 +260,7 @@ pub fn is_wide(choice: &Option<Choice>) -> bool
         Some(c) => match c.domain {
             Domain::Range { lo, hi } => length_reaches(lo, hi, 65536),
             Domain::Subsets { lo, hi } => length_reaches(lo, hi, 16),
+            Domain::Elems(_) => c.size > 65536,
             Domain::ElemSubsets(_) => c.size > 16,
             _ => false,
         },
@@ -271,13 +272,12 @@ pub fn is_deep(choice: &Option<Choice>) -> bool
     ensures { result ≡ has_big choice.now }
 {
     match choice {
-        Some(
-            Choice {
-                domain: Domain::Subsets { lo, hi },
-                size: _,
-            },
-        ) => length_reaches(*lo, *hi, 256),
-        _ => false,
+        None => false,
+        Some(c) => match c.domain {
+            Domain::Subsets { lo, hi } => length_reaches(lo, hi, 256),
+            Domain::ElemSubsets(_) => c.size > 256,
+            _ => false,
+        },
     }
 }
 

@@ -7,7 +7,7 @@ ghost use Rattle.cb_spec.specs.Forms.{Numbers as numbers_from};
 ghost use Rattle.cb_judge.specs.Judged.{place_of, literal_of, atom_form, is_up_to, is_membership, size_unless, chosen_fault, form_in, fault_in, fault_of, under};
 
 use crate::domain::{Choice, MAXINT, choice_fault, form_or_zero, typing};
-use crate::names::{Entry, Meaning, View, double, known};
+use crate::names::{Entry, Meaning, View, double, known, names_unknown};
 use cb_forms::fault::{Fault, earlier, when};
 use cb_forms::form::{Form, add_item, negation, suits_set};
 use cb_forms::signs::{combine, division, not_number, not_set, operands, sides, size};
@@ -109,10 +109,16 @@ fn sized(is_free: bool, form: &Option<Form>, place: Place) -> Option<Fault>
 }
 
 /// The faults of a name that is declared with the domain that its formula gives it.
-pub fn chosen(names: &Table<Entry>, name: &RawName, choice: &Option<Choice>) -> Option<Fault>
-    ensures { result ≡ first (chosen_fault names.now name.now choice.now) }
+pub fn chosen(
+    alloc: Global,
+    names: &Table<Entry>,
+    name: &RawName,
+    choice: &Option<Choice>,
+) -> Result<Option<Fault>, Memory>
+    ensures { IfOk result (λ f. f ≡ first (chosen_fault names.now name.now choice.now)) }
 {
-    earlier(double(names, name), choice_fault(choice, name.place))
+    let twice = double(alloc, names, name)?;
+    Ok(earlier(twice, choice_fault(choice, name.place)))
 }
 
 // Adds a bound variable.
@@ -129,7 +135,7 @@ pub fn enter(
         form: form_or_zero(choice),
     };
     let place = name.place;
-    names.enter(alloc, name.text.as_slice(), Entry { meaning, place })
+    names.enter_beside(alloc, name.text.as_slice(), Entry { meaning, place })
 }
 
 /// Judges a term, which stands directly to the right of `:`, `/:` or `<:`, or does not. The table ends as it began.
@@ -154,8 +160,9 @@ pub fn judge_term(
             })
         }
         RawTermNode::Name(name) => {
-            let form = known(view, names.find(name.text.as_slice()));
-            let unknown = when(form.is_none(), 2, name.place);
+            let entry = names.find(name.text.as_slice());
+            let form = known(view, entry);
+            let unknown = when(names_unknown(view, entry), 2, name.place);
             Ok(Seen {
                 form,
                 fault: earlier(unknown, size(&form, name.place)),
@@ -284,7 +291,7 @@ pub fn judge_formula(
         }
         RawFormulaNode::Every { name, domain, body } => {
             let choice = typing(names, view, name.text.as_slice(), domain);
-            let own = chosen(names, name, &choice);
+            let own = chosen(alloc, names, name, &choice)?;
             let outside = names.len();
             enter(alloc, names, name, &choice)?;
             let f = judge_formula(alloc, view, names, domain)?;
@@ -294,7 +301,7 @@ pub fn judge_formula(
         }
         RawFormulaNode::Exists { name, body } => {
             let choice = typing(names, view, name.text.as_slice(), body);
-            let own = chosen(names, name, &choice);
+            let own = chosen(alloc, names, name, &choice)?;
             let outside = names.len();
             enter(alloc, names, name, &choice)?;
             let f = judge_formula(alloc, view, names, body)?;

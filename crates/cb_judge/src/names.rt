@@ -1,17 +1,19 @@
 //! What names stand for, and which of them are known at a place.
 
-ghost use Rattle.std.specs.Prelude.{◌≡◌};
+ghost use Rattle.std.specs.Prelude.{◌≡◌, IfOk};
 ghost use Rattle.cb_forms.specs.Faults.{first};
 ghost use Rattle.cb_forms.specs.Kinds.{maybe_form};
-ghost use Rattle.cb_judge.specs.Meanings.{known_form, double_fault, known_number, known_set};
+ghost use Rattle.cb_judge.specs.Meanings.{known_form, is_unknown, double_at, double_fault, known_number, known_set};
 
-use cb_forms::fault::{Fault, later, when};
+use cb_forms::fault::{Fault, earlier, later, when};
 use cb_forms::form::Form;
 use cb_forms::owners::Owners;
 use cb_forms::span::at;
 use cb_forms::table::Table;
+use cb_lex::Memory;
 use cb_lex::raw::name::RawName;
 use cb_lex::token::Place;
+use std::alloc::Global;
 
 /// What a name stands for. Owners are machines, by their numbers.
 #[derive(Clone, Copy)]
@@ -31,6 +33,8 @@ pub enum Meaning {
     Bound { level: usize, form: Form },
     /// A result, which can be assigned to and not be read.
     Result,
+    /// A name that is bound to nothing that is declared: its form is not known.
+    Unformed,
     /// A word that no name may have.
     Reserved,
 }
@@ -103,6 +107,16 @@ pub fn known(view: &View, entry: Option<Entry>) -> Option<Form>
     }
 }
 
+/// Whether the name may not stand here as a term.
+pub fn names_unknown(view: &View, entry: Option<Entry>) -> bool
+    ensures { result ≡ is_unknown view.now entry }
+{
+    match entry {
+        None => true,
+        Some(e) => known(view, entry).is_none() && !matches!(e.meaning, Meaning::Unformed),
+    }
+}
+
 /// The number of a constant that is known.
 pub fn constant(view: &View, entry: Option<Entry>) -> Option<i64>
     ensures { result ≡ known_number view.now entry }
@@ -145,12 +159,25 @@ pub fn set_size(view: &View, entry: Option<Entry>) -> Option<(u32, usize)>
     }
 }
 
-/// The fault of a name that is declared where another of its spelling is known, at the later of the two.
-pub fn double(names: &Table<Entry>, name: &RawName) -> Option<Fault>
-    ensures { result ≡ first (double_fault names.now name.now) }
+fn double_of(name: &RawName, entry: Option<Entry>) -> Option<Fault>
+    ensures { result ≡ first (double_at name.now.place entry) }
 {
-    match names.find(name.text.as_slice()) {
+    match entry {
         Some(e) => when(true, 1, later(name.place, e.place)),
         None => None,
+    }
+}
+
+/// The fault of a name that is declared where another of its spelling is known, at the later of the two. Where a local stands beside
+/// that other, it is compared too.
+pub fn double(alloc: Global, names: &Table<Entry>, name: &RawName) -> Result<Option<Fault>, Memory>
+    ensures { IfOk result (λ f. f ≡ first (double_fault names.now name.now)) }
+{
+    match names.find(name.text.as_slice()) {
+        Some(e) => {
+            let local = names.find_again(alloc, name.text.as_slice())?;
+            Ok(earlier(double_of(name, Some(e)), double_of(name, local)))
+        }
+        None => Ok(None),
     }
 }

@@ -208,7 +208,7 @@ pub fn enter(
 {
     let meaning = Meaning::Local(form_or_zero(choice));
     let place = name.place;
-    names.enter(alloc, name.text.as_slice(), Entry { meaning, place })
+    names.enter_beside(alloc, name.text.as_slice(), Entry { meaning, place })
 }
 
 /// The first fault of a substitution, of which `results` tells what was assigned before and learns what it assigns. The table of
@@ -273,7 +273,7 @@ pub fn judge_subst(
             body,
         } => {
             let choice = typing(names, view, name.text.as_slice(), condition);
-            let own = chosen(names, name, &choice);
+            let own = chosen(alloc, names, name, &choice)?;
             let outside = names.len();
             enter(alloc, names, name, &choice)?;
             let f = judge_formula(alloc, view, names, condition)?;

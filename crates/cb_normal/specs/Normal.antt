@@ -16,7 +16,7 @@ use Rattle.cb_term.specs.declared.sign.RelSign.TheVariants.{Equal, Less, AtMost,
 use Rattle.cb_term.specs.declared.sign.TermSign.{TermSign}
 use Rattle.cb_term.specs.declared.sign.TermSign.TheVariants as sign
 use Rattle.cb_term.specs.Tree.{TermTree, Var, Bound, Num, Truth, Elem, Bin, Neg, Card, Listed, Elems, Truths, Test, TermTrees, End, More, FormulaTree, True, False, Rel, Not, And, Or, Implies, Iff, Every, Exist}
-use Rattle.cb_spec.specs.Domains.{kind_of}
+use Rattle.cb_spec.specs.Domains.{kind_of_domain}
 use Rattle.cb_forms.specs.Find.{found}
 use Rattle.cb_judge.specs.declared.domain.Choice.{Choice}
 use Rattle.cb_judge.specs.declared.names.Entry.{Entry}
@@ -116,7 +116,7 @@ module _ (v : View) where
     formula_in names (raw.Equivalent f g) = Iff (formula_in names f) (formula_in names g)
     formula_in names (raw.Relation r p a b) = related r (term_in names a) (term_in names b)
     formula_in names (raw.Every x d f) =
-        Every (written x.text) (kind_of (domain_or (typing_in v names x.text d)))
+        Every (written x.text) (kind_of_domain (domain_or (typing_in v names x.text d)))
         (Implies (formula_in (under x (typing_in v names x.text d) names) d) (formula_in (under x (typing_in v names x.text d) names) f))
     formula_in names (raw.Exists x f) =
-        Exist (written x.text) (kind_of (domain_or (typing_in v names x.text f))) (formula_in (under x (typing_in v names x.text f) names) f)
+        Exist (written x.text) (kind_of_domain (domain_or (typing_in v names x.text f))) (formula_in (under x (typing_in v names x.text f) names) f)

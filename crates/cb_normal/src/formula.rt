@@ -3,7 +3,7 @@
 ghost use Rattle.std.specs.Prelude.{◌≡◌, IfOk, OnOk, length};
 ghost use Rattle.cb_lex.specs.RawTermTree as raw;
 ghost use Rattle.cb_term.specs.Tree as tree;
-ghost use Rattle.cb_spec.specs.Domains.{kind_of};
+ghost use Rattle.cb_spec.specs.Domains.{kind_of_domain};
 ghost use Rattle.cb_forms.specs.Find.{found};
 ghost use Rattle.cb_judge.specs.Judged.{under};
 ghost use Rattle.cb_normal.specs.Normal.{written, index_of, meaning_term, named, range, atom_term, sign_of, minus, related, domain_or, term_in, terms_in, formula_in};
@@ -165,7 +165,7 @@ pub fn domain_or_zero(choice: &Option<Choice>) -> Domain
 
 /// The kind of a domain's values.
 pub fn kind(domain: &Domain) -> Kind
-    ensures { result ≡ kind_of domain.now }
+    ensures { result ≡ kind_of_domain domain.now }
 {
     match domain {
         Domain::Range { lo: _, hi: _ } => Kind::Integer,

@@ -18,7 +18,7 @@ use Rattle.cb_spec.specs.declared.system.Declared.{Declared}
 use Rattle.cb_spec.specs.declared.system.Machine.{Machine}
 use Rattle.cb_spec.specs.declared.system.Operation.{Operation}
 use Rattle.cb_spec.specs.declared.system.System.{System}
-use Rattle.cb_spec.specs.Domains.{kind_of}
+use Rattle.cb_spec.specs.Domains.{kind_of_domain}
 use Rattle.cb_spec.specs.Stores.{Writes, found, over, empty}
 use Rattle.cb_spec.specs.Bound.{names, is_among, bind, only, AreOfKinds, GivesKinds}
 use Rattle.cb_spec.specs.Runs.{Runs, Live}
@@ -47,7 +47,7 @@ pub neither : (a b : Bool) → (a || b) ≡ false → (a ≡ false) × (b ≡ fa
 neither true b e = cc
 neither false b e = (refl, e)
 
-at_some : {A : Type 0} (xs : List A) (x : A) → Contains xs x → (j : ℕ) × IsAt xs j x
+pub at_some : {A : Type 0} (xs : List A) (x : A) → Contains xs x → (j : ℕ) × IsAt xs j x
 at_some {A = A} xs x c = by xs c.0 c.1 c.2
   where
     by : (ys : List A) (k : ℕ) → k < length ys → get_or ys k x ≡ x → (j : ℕ) × IsAt ys j x
@@ -58,16 +58,16 @@ at_some {A = A} xs x c = by xs c.0 c.1 c.2
 -- ---- parameters
 
 -- the names at the values, written one after the other
-abbrev args_in : List Name → List Value → Look → Look
+abbrev pub args_in : List Name → List Value → Look → Look
 args_in [] vs s = s
 args_in (x ∷ xs) [] s = s
 args_in (x ∷ xs) (v ∷ vs) s = args_in xs vs (set_at s x v)
 
-over_agrees : (d : Writes) (s t : Look) (y : Name) → s y ≡ t y → over d s y ≡ over d t y
+pub over_agrees : (d : Writes) (s t : Look) (y : Name) → s y ≡ t y → over d s y ≡ over d t y
 over_agrees [] s t y e = e
 over_agrees (p ∷ d) s t y e = ap (λ v. if same_name y p.0 then p.1 else v) (over_agrees d s t y e)
 
-over_outside : (xs : List Name) (vs : List Value) (s : Look) (y : Name) → is_among y xs ≡ false → over (bind xs vs) s y ≡ s y
+pub over_outside : (xs : List Name) (vs : List Value) (s : Look) (y : Name) → is_among y xs ≡ false → over (bind xs vs) s y ≡ s y
 over_outside [] vs s y e = refl
 over_outside (x ∷ xs) [] s y e = let n = neither _ _ e in ap (λ b. if b then nothing else over (bind xs []) s y) n.0 ∙ over_outside xs [] s y n.1
 over_outside (x ∷ xs) (v ∷ vs) s y e = let n = neither _ _ e in ap (λ b. if b then v else over (bind xs vs) s y) n.0 ∙ over_outside xs vs s y n.1
@@ -86,7 +86,7 @@ kept_is xs (p ∷ d) look y e = by (is_among p.0 xs) refl (kept_is xs d look y e
     by true n r = ap (λ v. if same_name y p.0 then p.1 else v) r
     by false n r = r ∙ apart (same_name y p.0) refl n
 
-written_over : (d : Writes) (s t : Look) (y : Name) → IsSome (found d y) → over d s y ≡ over d t y
+pub written_over : (d : Writes) (s t : Look) (y : Name) → IsSome (found d y) → over d s y ≡ over d t y
 written_over d s t y h = over_is d s y ∙ by (found d y) h ∙ sym (over_is d t y)
   where
     by : (o : Option Value) → IsSome o → or_look o (s y) ≡ or_look o (t y)
@@ -94,7 +94,7 @@ written_over d s t y h = over_is d s y ∙ by (found d y) h ∙ sym (over_is d t
     by (Some w) h = refl
 
 module _ (sizes : List ℕ) where
-  args_agree : (ds : List Declared) (vs : List Value) (s : Look) (y : Name) → Differ (names ds) → AreOfKinds sizes ds vs →
+  pub args_agree : (ds : List Declared) (vs : List Value) (s : Look) (y : Name) → Differ (names ds) → AreOfKinds sizes ds vs →
       args_in (names ds) vs s y ≡ over (bind (names ds) vs) s y
   args_agree [] [] s y n k = refl
   args_agree [] (v ∷ vs) s y n k = absurd k
@@ -108,7 +108,7 @@ module _ (sizes : List ℕ) where
           (over_outside (names ds) vs (set_at s d.name v) d.name n.0 ∙ set_here s d.name v)
       by false e = over_agrees (bind (names ds) vs) (set_at s d.name v) s y (set_other s d.name v y e)
 
-  for_all_gives : (look : Look) (f : FormulaTree) → Steady sizes f → (ds : List Declared) (qs : Writes) →
+  pub for_all_gives : (look : Look) (f : FormulaTree) → Steady sizes f → (ds : List Declared) (qs : Writes) →
       Holds sizes look (for_all (names_of qs) ds f) (values_of qs ++ []) → (vs : List Value) → AreOfKinds sizes ds vs →
       Holds sizes (args_in (names ds) vs (over qs look)) f []
   for_all_gives look f st [] qs h [] k = (st (over qs look) (values_of qs ++ [])).0 ((closed_over_holds sizes look qs [] f).0 h)
@@ -116,7 +116,7 @@ module _ (sizes : List ℕ) where
   for_all_gives look f st (d ∷ ds) qs h [] k = absurd k
   for_all_gives look f st (d ∷ ds) qs h (v ∷ vs) k = for_all_gives look f st ds ((d.name, v) ∷ qs) (h v k.0) vs k.1
 
-  for_all_names : (ds : List Declared) (xs : List Name) (f : FormulaTree) → EachName IsWritten f → EachName IsWritten (for_all xs ds f)
+  pub for_all_names : (ds : List Declared) (xs : List Name) (f : FormulaTree) → EachName IsWritten f → EachName IsWritten (for_all xs ds f)
   for_all_names [] xs f w = closed_names xs f (written_known xs f w)
   for_all_names (d ∷ ds) xs f w = for_all_names ds (d.name ∷ xs) f w
 
@@ -124,21 +124,21 @@ module _ (sizes : List ℕ) where
   gives_kinds [] look h x k e = cc
   gives_kinds (d ∷ ds) look h x k e = by (same_name x d.name) refl e (gives_kinds ds look h.1 x k)
     where
-      by : (b : Bool) → same_name x d.name ≡ b → (if b then Some (kind_of d.domain) else kind_in (with_kinds ds) x) ≡ Some k →
+      by : (b : Bool) → same_name x d.name ≡ b → (if b then Some (kind_of_domain d.domain) else kind_in (with_kinds ds) x) ≡ Some k →
           (kind_in (with_kinds ds) x ≡ Some k → IsOf sizes k (look x)) → IsOf sizes k (look x)
       by true s e r =
           let same : x ≡ d.name = same_name_tells x d.name s in
-          let kind : kind_of d.domain ≡ k = cc (e) in
+          let kind : kind_of_domain d.domain ≡ k = cc (e) in
           subst (λ y. IsOf sizes k (look y)) (sym same) (subst (λ j. IsOf sizes j (look d.name)) kind h.0)
       by false s e r = r e
 
   -- ---- the list
 
-  named_valid : (g : Group) (owner : Name) (part : Option Name) (i : ℕ) (qs : List Claim) → AllOwedValid sizes (named g owner part i qs) → AllValid sizes qs
+  pub named_valid : (g : Group) (owner : Name) (part : Option Name) (i : ℕ) (qs : List Claim) → AllOwedValid sizes (named g owner part i qs) → AllValid sizes qs
   named_valid g owner part i [] v = tt
   named_valid g owner part i (q ∷ qs) v = (v.0, named_valid g owner part (i + 1) qs v.1)
 
-  owed_append : (as' bs : List Owed) → AllOwedValid sizes (as' ++ bs) → AllOwedValid sizes as' × AllOwedValid sizes bs
+  pub owed_append : (as' bs : List Owed) → AllOwedValid sizes (as' ++ bs) → AllOwedValid sizes as' × AllOwedValid sizes bs
   owed_append [] bs v = (tt, v)
   owed_append (a ∷ as') bs v = let w = owed_append as' bs v.1 in ((v.0, w.0), w.1)
 
@@ -150,7 +150,7 @@ module _ (sizes : List ℕ) where
       subst (λ z. AllOwedValid sizes (operation_owes m z)) same (owed_append (operation_owes m p) (flat_map (λ (q : Operation). operation_owes m q) os) v).0
   listed_owed m (p ∷ os) (suc j) o e v = listed_owed m os j o e (owed_append (operation_owes m p) (flat_map (λ (q : Operation). operation_owes m q) os) v).1
 
-  plain_steady : (f : FormulaTree) → IsPlain f → Steady sizes f
+  pub plain_steady : (f : FormulaTree) → IsPlain f → Steady sizes f
   plain_steady f w l env = closed_holds sizes l ⊥ f 0 env [] (λ j lt. absurd (omega (arith, lt))) w.1
 
   module _ (m : Machine) (fits : MachineFits sizes m) where

@@ -21,7 +21,7 @@ use Rattle.cb_term.proofs.Equivalences.{stays, then_iff, not_iff, and_iff, impli
 use Rattle.cb_term.proofs.ClosedLemmas.{closed_holds}
 use Rattle.cb_term.proofs.ChangeLemmas.{mapped_meets, mapped_holds}
 use Rattle.cb_spec.specs.SubstTree.{SubstTree, Skip, Assign, Together, Choice, If, AnyOf, SubstTrees, End, More}
-use Rattle.cb_spec.specs.Domains.{kind_of, In, HasElements, typing}
+use Rattle.cb_spec.specs.Domains.{kind_of_domain, In, HasElements, typing}
 use Rattle.cb_spec.specs.Stores.{Writes, over}
 use Rattle.cb_spec.specs.Runs.{Live, LiveEach, HasConjunct, Fits, FitEach}
 use Rattle.cb_spec.proofs.DomainLemmas.{domain_typing}
@@ -142,13 +142,13 @@ module _ (sizes : List ℕ) where
   from_conjunct g f c l env h = subst (λ z. Holds sizes l z env) c h
 
   pub is_in : (z : Name) (domain : Domain) (p : FormulaTree) (l : Look) (v : Value) → HasConjunct (typing (tree.Var z) domain) p →
-      IsOf sizes (kind_of domain) v → Holds sizes (set_at l z v) p [] → In sizes domain v
+      IsOf sizes (kind_of_domain domain) v → Holds sizes (set_at l z v) p [] → In sizes domain v
   is_in z domain p l v c o h = subst (In sizes domain) (set_here l z v) ((domain_typing sizes domain (set_at l z v) z).1
-      (subst (IsOf sizes (kind_of domain)) (sym (set_here l z v)) o, from_conjunct (typing (tree.Var z) domain) p c (set_at l z v) [] h))
+      (subst (IsOf sizes (kind_of_domain domain)) (sym (set_here l z v)) o, from_conjunct (typing (tree.Var z) domain) p c (set_at l z v) [] h))
 
-  pub kind_in : (z : Name) (domain : Domain) (l : Look) (v : Value) → In sizes domain v → IsOf sizes (kind_of domain) v
+  pub kind_in : (z : Name) (domain : Domain) (l : Look) (v : Value) → In sizes domain v → IsOf sizes (kind_of_domain domain) v
   kind_in z domain l v i =
-      subst (IsOf sizes (kind_of domain)) (set_here l z v) ((domain_typing sizes domain (set_at l z v) z).0 (subst (In sizes domain) (sym (set_here l z v)) i)).0
+      subst (IsOf sizes (kind_of_domain domain)) (set_here l z v) ((domain_typing sizes domain (set_at l z v) z).0 (subst (In sizes domain) (sym (set_here l z v)) i)).0
 
   -- a domain that has elements has one
   element : (d : Domain) → HasElements sizes d → (v : Value) × In sizes d v
@@ -201,8 +201,8 @@ module _ (sizes : List ℕ) where
           λ v. guard_holds ((z, v) ∷ ps) p w.1.0 in
           let q : (v : Value) → Holds sizes look (live_under (z ∷ names_of ps) s) (v ∷ values_of ps ++ rest) ↔ Live sizes s (set_at l z v) =
           λ v. live_holds s w.1.1 f.2 ((z, v) ∷ ps) in
-          unless_choice z domain p s l (And (Exist z (kind_of domain) (closed_over (z ∷ names_of ps) p))
-          (Every z (kind_of domain) (Implies (closed_over (z ∷ names_of ps) p) (live_under (z ∷ names_of ps) s)))) (values_of ps ++ rest) f.1 (and_iff
+          unless_choice z domain p s l (And (Exist z (kind_of_domain domain) (closed_over (z ∷ names_of ps) p))
+          (Every z (kind_of_domain domain) (Implies (closed_over (z ∷ names_of ps) p) (live_under (z ∷ names_of ps) s)))) (values_of ps ++ rest) f.1 (and_iff
           (not_iff (
             (λ h v i hp. h v (kind_in z domain l v i) ((g v).1 hp)),
             (λ h v o hc. h v (is_in z domain p l v f.0 o ((g v).0 hc)) ((g v).0 hc)),
@@ -213,4 +213,5 @@ module _ (sizes : List ℕ) where
 
       pub live_each_holds : (ss : SubstTrees) → AsWrittenEach ss → FitEach sizes ss → (ps : Writes) → Holds sizes look (live_each (names_of ps) ss) (values_of ps ++ rest) ↔ LiveEach sizes ss (over ps look)
       live_each_holds End w f ps = stays
-      live_each_holds (More s ss) w f ps = and_iff (live_holds s w.0 f.0 ps) (live_each_holds ss w.1 f.1 ps)
+      live_each_holds (More s End) w f ps = let s' = live_holds s w.0 f.0 ps in ((λ h. (s'.0 h, tt)), (λ h. s'.1 h.0))
+      live_each_holds (More s (More t ss)) w f ps = and_iff (live_holds s w.0 f.0 ps) (live_each_holds (More t ss) w.1 f.1 ps)

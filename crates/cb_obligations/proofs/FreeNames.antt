@@ -6,11 +6,11 @@ use Rattle.cb_term.specs.Tree as tree
 use Rattle.cb_term.specs.Tree.{TermTree, Var, Bound, Num, Truth, Elem, Bin, Neg, Card, Listed, Elems, Truths, Test, TermTrees, FormulaTree, True, False, Rel, Not, And, Or, Implies, Iff, Every, Exist}
 use Rattle.cb_term.specs.Change.{mapped_term, mapped_terms, mapped_formula, bound_stays}
 use Rattle.cb_term.proofs.ValueLemmas.{same_name_self}
-use Rattle.cb_spec.specs.Domains.{kind_of}
+use Rattle.cb_spec.specs.Domains.{kind_of_domain}
 use Rattle.cb_spec.specs.SubstTree.{SubstTree, Skip, Assign, Together, Choice, If, AnyOf, SubstTrees, End, More}
 use Rattle.cb_obligations.specs.Written.{EachNameOfTerm, EachNameOfTerms, EachName, IsWritten, AsWritten, AsWrittenEach}
 use Rattle.cb_obligations.specs.Branches as made
-use Rattle.cb_obligations.specs.Branches.{Item, Bind, Guard, Assigned, Branch, numbered, opened_name, opened_names, opened_term, opened, binds, guarded, joined, branches_from, branches_of_each, branches}
+use Rattle.cb_obligations.specs.Branches.{Item, Bind, Guard, Assigned, Branch, numbered, opened_name, opened_names, opened_term, opened, binds, guarded, joined_branch, branches_from, branches_of_each, branches}
 use Rattle.cb_obligations.specs.Transform.{as_bound, closed_over, assigned, branch_formula, and_branches, all_branches, transformed, is_choice, live_under, live_each}
 use Rattle.cb_obligations.proofs.NameLemmas.{weaken_term, each_name_weaken}
 use Rattle.cb_obligations.proofs.Runs.{EachOf, each_append, each_map, each_flat_map, each_step}
@@ -78,22 +78,23 @@ mutual
       ((c, live_names a xs w.1.0), (c, live_names b xs w.1.1))
   live_names (AnyOf z domain p s) xs w =
       let c = closed_names (z ∷ xs) p (written_known (z ∷ xs) p w.1.0.0) in
-      elim (is_choice z domain p s) as (λ b. EachName IsWritten (if b then True else And (Exist z (kind_of domain) (closed_over (z ∷ xs) p))
-      (Every z (kind_of domain) (Implies (closed_over (z ∷ xs) p) (live_under (z ∷ xs) s))))) [
+      elim (is_choice z domain p s) as (λ b. EachName IsWritten (if b then True else And (Exist z (kind_of_domain domain) (closed_over (z ∷ xs) p))
+      (Every z (kind_of_domain domain) (Implies (closed_over (z ∷ xs) p) (live_under (z ∷ xs) s))))) [
         | true ↦ tt
         | false ↦ (c, (c, live_names s (z ∷ xs) w.1.1))
       ]
 
   live_each_names : (ss : SubstTrees) (xs : List Name) → AsWrittenEach ss → EachName IsWritten (live_each xs ss)
   live_each_names End xs w = tt
-  live_each_names (More s ss) xs w = (live_names s xs w.0, live_each_names ss xs w.1)
+  live_each_names (More s End) xs w = live_names s xs w.0
+  live_each_names (More s (More t ss)) xs w = (live_names s xs w.0, live_each_names (More t ss) xs w.1)
 
 -- ---- branches
 
-abbrev Wider : List Name → List Name → Type 0
+abbrev pub Wider : List Name → List Name → Type 0
 Wider xs ys = (y : Name) → IsTrue (is_among xs y) → IsTrue (is_among ys y)
 
-wider_known : (xs ys : List Name) → Wider xs ys → (y : Name) → Known xs y → Known ys y
+pub wider_known : (xs ys : List Name) → Wider xs ys → (y : Name) → Known xs y → Known ys y
 wider_known xs ys h y (inl w) = inl w
 wider_known xs ys h y (inr e) = inr (h y e)
 
@@ -104,11 +105,11 @@ wider_one xs x y e = by_test (same_name y x)
     by_test true = refl
     by_test false = e
 
-abbrev WritesIn : List Name → Assigned → Type 0
+abbrev pub WritesIn : List Name → Assigned → Type 0
 WritesIn xs [] = Unit {0}
 WritesIn xs (w ∷ ws) = EachNameOfTerm (Known xs) w.1 × WritesIn xs ws
 
-abbrev ItemsIn : List Name → List Item → Assigned → Type 0
+abbrev pub ItemsIn : List Name → List Item → Assigned → Type 0
 ItemsIn xs [] ws = WritesIn xs ws
 ItemsIn xs (Bind x kind ∷ is) ws = ItemsIn (x ∷ xs) is ws
 ItemsIn xs (Guard p ∷ is) ws = EachName (Known xs) p × ItemsIn xs is ws
@@ -117,7 +118,7 @@ writes_wider : (xs ys : List Name) (ws : Assigned) → Wider xs ys → WritesIn 
 writes_wider xs ys [] h i = tt
 writes_wider xs ys (w ∷ ws) h i = (weaken_term (Known xs) (Known ys) (wider_known xs ys h) w.1 i.0, writes_wider xs ys ws h i.1)
 
-writes_both : (xs : List Name) (ws us : Assigned) → WritesIn xs ws → WritesIn xs us → WritesIn xs (ws ++ us)
+pub writes_both : (xs : List Name) (ws us : Assigned) → WritesIn xs ws → WritesIn xs us → WritesIn xs (ws ++ us)
 writes_both xs [] us a b = b
 writes_both xs (w ∷ ws) us a b = (a.0, writes_both xs ws us a.1 b)
 
@@ -133,7 +134,7 @@ items_joined xs (Bind x kind ∷ is) js ws us i h = items_joined (x ∷ xs) is j
 items_joined xs (Guard p ∷ is) js ws us i h = (i.0, items_joined xs is js ws us i.1 h)
 
 -- the scope's opened names are known
-abbrev Scoped : List Name → List Name → Type 0
+abbrev pub Scoped : List Name → List Name → Type 0
 Scoped scope xs = (y : Name) → IsWritten y → Known xs (opened_name scope y)
 
 scoped_more : (scope xs : List Name) (x : Name) → Scoped scope xs → Scoped (x ∷ scope) (x ∷ xs)
@@ -150,7 +151,7 @@ opened_term_in : (scope xs : List Name) (t : TermTree) → Scoped scope xs → E
 opened_term_in scope xs t h w = moved_names_of_term (Known xs) IsWritten (opened_names scope) bound_stays (λ k y yw. h y yw) (λ k j. tt) t 0 w
 
 -- under the names `xs` and any more
-abbrev Inside : List Name → Branch → Type 0
+abbrev pub Inside : List Name → Branch → Type 0
 Inside xs b = (ys : List Name) → Wider xs ys → ItemsIn ys b.items b.writes
 
 scoped_wider : (scope xs ys : List Name) → Wider xs ys → Scoped scope xs → Scoped scope ys
@@ -164,14 +165,14 @@ wider_both xs ys x w y e = by_test (same_name y x) e
     by_test false e = w y e
 
 mutual
-  branches_in : (s : SubstTree) (k : ℕ) (scope xs : List Name) → AsWritten s → Scoped scope xs → EachOf (Inside xs) (branches_from k scope s)
+  pub branches_in : (s : SubstTree) (k : ℕ) (scope xs : List Name) → AsWritten s → Scoped scope xs → EachOf (Inside xs) (branches_from k scope s)
   branches_in Skip k scope xs w h = ((λ ys v. tt), tt)
   branches_in (Assign x e) k scope xs w h = ((λ ys v. (opened_term_in scope ys e (scoped_wider scope xs ys v h) w.1.0, tt)), tt)
   branches_in (Together a b) k scope xs w h =
-      (each_flat_map (Inside xs) (λ p. map (joined p) (branches_from (k + binds p.items) scope b)) (branches_from k scope a)).1
-      (each_step (Inside xs) (λ p. EachOf (Inside xs) (map (joined p) (branches_from (k + binds p.items) scope b))) (branches_from k scope a) (branches_in a k scope xs w.0 h)
-      (λ p i. (each_map (Inside xs) (joined p) (branches_from (k + binds p.items) scope b)).1
-      (each_step (Inside xs) (λ q. Inside xs (joined p q)) (branches_from (k + binds p.items) scope b) (branches_in b (k + binds p.items) scope xs w.1 h)
+      (each_flat_map (Inside xs) (λ p. map (joined_branch p) (branches_from (k + binds p.items) scope b)) (branches_from k scope a)).1
+      (each_step (Inside xs) (λ p. EachOf (Inside xs) (map (joined_branch p) (branches_from (k + binds p.items) scope b))) (branches_from k scope a) (branches_in a k scope xs w.0 h)
+      (λ p i. (each_map (Inside xs) (joined_branch p) (branches_from (k + binds p.items) scope b)).1
+      (each_step (Inside xs) (λ q. Inside xs (joined_branch p q)) (branches_from (k + binds p.items) scope b) (branches_in b (k + binds p.items) scope xs w.1 h)
       (λ q j ys v. items_joined ys p.items q.items p.writes q.writes (i ys v) (λ zs u. j zs (λ y e. u y (v y e)))))))
   branches_in (Choice ss) k scope xs w h = branches_in_each ss k scope xs w h
   branches_in (If p a b) k scope xs w h =
@@ -185,8 +186,8 @@ mutual
       )
   branches_in (AnyOf z domain p s) k scope xs w h =
       let x = numbered z (k + 1) in
-      (each_map (Inside xs) (made.bound x (kind_of domain) (opened (x ∷ scope) p)) (branches_from (k + 1) (x ∷ scope) s)).1
-      (each_step (Inside (x ∷ xs)) (λ q. Inside xs (made.bound x (kind_of domain) (opened (x ∷ scope) p) q)) (branches_from (k + 1) (x ∷ scope) s)
+      (each_map (Inside xs) (made.bound_branch x (kind_of_domain domain) (opened (x ∷ scope) p)) (branches_from (k + 1) (x ∷ scope) s)).1
+      (each_step (Inside (x ∷ xs)) (λ q. Inside xs (made.bound_branch x (kind_of_domain domain) (opened (x ∷ scope) p) q)) (branches_from (k + 1) (x ∷ scope) s)
       (branches_in s (k + 1) (x ∷ scope) (x ∷ xs) w.1.1 (scoped_more scope xs x h))
       (λ q i ys v. (
         opened_in (x ∷ scope) (x ∷ ys) p (scoped_wider (x ∷ scope) (x ∷ xs) (x ∷ ys) (wider_both xs ys x v) (scoped_more scope xs x h)) w.1.0.0,
@@ -208,16 +209,16 @@ assigned_names xs (u ∷ ws) h k y w =
     by_test true a b = a
     by_test false a b = b
 
-branch_names : (xs : List Name) (is : List Item) (ws : Assigned) (r : FormulaTree) → ItemsIn xs is ws → EachName IsWritten r → EachName IsWritten (branch_formula xs is ws r)
+pub branch_names : (xs : List Name) (is : List Item) (ws : Assigned) (r : FormulaTree) → ItemsIn xs is ws → EachName IsWritten r → EachName IsWritten (branch_formula xs is ws r)
 branch_names xs [] ws r i w = moved_names IsWritten IsWritten (assigned xs ws) bound_stays (assigned_names xs ws i) (λ k j. tt) r 0 w
 branch_names xs (Bind x kind ∷ is) ws r i w = branch_names (x ∷ xs) is ws r i w
 branch_names xs (Guard p ∷ is) ws r i w = (closed_names xs p i.0, branch_names xs is ws r i.1 w)
 
-and_names : (f : FormulaTree) (bs : List Branch) (r : FormulaTree) → EachName IsWritten f → EachOf (Inside []) bs → EachName IsWritten r → EachName IsWritten (and_branches f bs r)
+pub and_names : (f : FormulaTree) (bs : List Branch) (r : FormulaTree) → EachName IsWritten f → EachOf (Inside []) bs → EachName IsWritten r → EachName IsWritten (and_branches f bs r)
 and_names f [] r h i w = h
 and_names f (b ∷ bs) r h i w = and_names (And f (branch_formula [] b.items b.writes r)) bs r (h, branch_names [] b.items b.writes r (i.0 [] (λ y e. e)) w) i.1 w
 
-all_names : (bs : List Branch) (r : FormulaTree) → EachOf (Inside []) bs → EachName IsWritten r → EachName IsWritten (all_branches bs r)
+pub all_names : (bs : List Branch) (r : FormulaTree) → EachOf (Inside []) bs → EachName IsWritten r → EachName IsWritten (all_branches bs r)
 all_names [] r i w = tt
 all_names (b ∷ bs) r i w = and_names (branch_formula [] b.items b.writes r) bs r (branch_names [] b.items b.writes r (i.0 [] (λ y e. e)) w) i.1 w
 

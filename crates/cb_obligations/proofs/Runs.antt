@@ -15,20 +15,20 @@ use Rattle.cb_term.proofs.Equivalences.{stays, then_iff, not_iff, and_iff, impli
 use Rattle.cb_term.proofs.ClosedLemmas.{closed_holds, value_closed}
 use Rattle.cb_term.proofs.ChangeLemmas.{mapped_meets, mapped_holds}
 use Rattle.cb_spec.specs.SubstTree.{SubstTree, Skip, Assign, Together, Choice, If, AnyOf, SubstTrees, End, More}
-use Rattle.cb_spec.specs.Domains.{kind_of}
+use Rattle.cb_spec.specs.Domains.{kind_of_domain}
 use Rattle.cb_spec.specs.Stores.{Writes}
 use Rattle.cb_spec.specs.Runs.{Runs, RunsOne, Fits, FitEach}
 use Rattle.cb_spec.proofs.RunLemmas.{sides_apart}
 use Rattle.cb_obligations.specs.Written.{EachName, EachNameOfTerm, IsWritten, IsPlain, IsPlainTerm, AsWritten, AsWrittenEach}
-use Rattle.cb_obligations.specs.Branches.{Item, Bind, Guard, Assigned, Branch, numbered, opened_name, opened_names, opened_term, opened, binds, guarded, bound, joined, branches_from, branches_of_each}
+use Rattle.cb_obligations.specs.Branches.{Item, Bind, Guard, Assigned, Branch, numbered, opened_name, opened_names, opened_term, opened, binds, guarded, bound_branch, joined_branch, branches_from, branches_of_each}
 use Rattle.cb_obligations.proofs.NameLemmas.{agree_meets, agree_holds}
 use Rattle.cb_obligations.proofs.Stores.{set_here, set_agrees, AgreeUpTo}
 use Rattle.cb_obligations.proofs.Formulas.{ValuesAre, Under, SteadyTerm, Steady, SteadyItems, SteadyWrites, is_in, kind_in}
 
-pi_iff : {X : Type 0} {A B : X → Type 0} → ((x : X) → A x ↔ B x) → ((x : X) → A x) ↔ ((x : X) → B x)
+pub pi_iff : {X : Type 0} {A B : X → Type 0} → ((x : X) → A x ↔ B x) → ((x : X) → A x) ↔ ((x : X) → B x)
 pi_iff p = ((λ h x. (p x).0 (h x)), (λ h x. (p x).1 (h x)))
 
-iff_back : {A B : Type 0} → (A ↔ B) → B ↔ A
+pub iff_back : {A B : Type 0} → (A ↔ B) → B ↔ A
 iff_back p = (p.1, p.0)
 
 -- ---- lists of branches
@@ -104,7 +104,7 @@ module _ (sizes : List ℕ) where
   Local n [] = Unit {0}
   Local n (w ∷ ws) = ((l l' : Look) (v : Value) → AgreeUpTo n l l' → IsValue sizes l w.1 [] v → IsValue sizes l' w.1 [] v) × Local n ws
 
-  local_more : (n m : ℕ) (ws : Assigned) → n ≤ m → Local n ws → Local m ws
+  pub local_more : (n m : ℕ) (ws : Assigned) → n ≤ m → Local n ws → Local m ws
   local_more n m [] le h = tt
   local_more n m (w ∷ ws) le h = ((λ l l' v a. h.0 l l' v (λ y k. a y (omega (arith, k, le)))), local_more n m ws le h.1)
 
@@ -112,13 +112,13 @@ module _ (sizes : List ℕ) where
   local_append n [] us a b = b
   local_append n (w ∷ ws) us a b = (a.0, local_append n ws us a.1 b)
 
-  values_later : (n : ℕ) (ws : Assigned) (l l' : Look) (d : Writes) → Local n ws → AgreeUpTo n l l' → ValuesAre sizes ws l d → ValuesAre sizes ws l' d
+  pub values_later : (n : ℕ) (ws : Assigned) (l l' : Look) (d : Writes) → Local n ws → AgreeUpTo n l l' → ValuesAre sizes ws l d → ValuesAre sizes ws l' d
   values_later n [] l l' [] h a va = va
   values_later n [] l l' (p ∷ d) h a va = va
   values_later n (w ∷ ws) l l' [] h a va = va
   values_later n (w ∷ ws) l l' (p ∷ d) h a va = (va.0, h.0 l l' p.1 a va.1, values_later n ws l l' d h.1 a va.2)
 
-  values_join : (ws us : Assigned) (l : Look) (d e : Writes) → ValuesAre sizes ws l d → ValuesAre sizes us l e → ValuesAre sizes (ws ++ us) l (d ++ e)
+  pub values_join : (ws us : Assigned) (l : Look) (d e : Writes) → ValuesAre sizes ws l d → ValuesAre sizes us l e → ValuesAre sizes (ws ++ us) l (d ++ e)
   values_join [] us l [] e a b = b
   values_join [] us l (p ∷ d) e a b = absurd a
   values_join (w ∷ ws) us l [] e a b = absurd a
@@ -240,7 +240,7 @@ module _ (sizes : List ℕ) where
     pub steady : SteadyItems sizes b.items
     pub steady_terms : SteadyWrites sizes b.writes
 
-  good_joined : (k : ℕ) (a b : Branch) → Good k a → Good (k + binds a.items) b → Good k (joined a b)
+  good_joined : (k : ℕ) (a b : Branch) → Good k a → Good (k + binds a.items) b → Good k (joined_branch a b)
   good_joined k a b g h = record {
     numbers = numbered_append k a.items b.items g.numbers h.numbers;
     local = local_append (k + binds (a.items ++ b.items)) a.writes b.writes
@@ -263,10 +263,10 @@ module _ (sizes : List ℕ) where
       tt,
     )
     good_branches (Together a b) k scope w su =
-        (each_flat_map (Good k) (λ p. map (joined p) (branches_from (k + binds p.items) scope b)) (branches_from k scope a)).1
-        (each_step (Good k) (λ p. EachOf (Good k) (map (joined p) (branches_from (k + binds p.items) scope b))) (branches_from k scope a) (good_branches a k scope w.0 su)
-        (λ p g. (each_map (Good k) (joined p) (branches_from (k + binds p.items) scope b)).1
-        (each_step (Good (k + binds p.items)) (λ q. Good k (joined p q)) (branches_from (k + binds p.items) scope b)
+        (each_flat_map (Good k) (λ p. map (joined_branch p) (branches_from (k + binds p.items) scope b)) (branches_from k scope a)).1
+        (each_step (Good k) (λ p. EachOf (Good k) (map (joined_branch p) (branches_from (k + binds p.items) scope b))) (branches_from k scope a) (good_branches a k scope w.0 su)
+        (λ p g. (each_map (Good k) (joined_branch p) (branches_from (k + binds p.items) scope b)).1
+        (each_step (Good (k + binds p.items)) (λ q. Good k (joined_branch p q)) (branches_from (k + binds p.items) scope b)
         (good_branches b (k + binds p.items) scope w.1 (λ y yw. omega (arith, su y yw))) (λ q h. good_joined k p q g h))))
     good_branches (Choice ss) k scope w su = good_each ss k scope w su
     good_branches (If p a b) k scope w su =
@@ -281,8 +281,8 @@ module _ (sizes : List ℕ) where
     good_branches (AnyOf z domain p s) k scope w su =
         let x = numbered z (k + 1) in
         let inner = branches_from (k + 1) (x ∷ scope) s in
-        (each_map (Good k) (bound x (kind_of domain) (opened (x ∷ scope) p)) inner).1
-        (each_step (Good (k + 1)) (λ b. Good k (bound x (kind_of domain) (opened (x ∷ scope) p) b)) inner (good_branches s (k + 1) (x ∷ scope) w.1.1 (scope_bound k scope z su))
+        (each_map (Good k) (bound_branch x (kind_of_domain domain) (opened (x ∷ scope) p)) inner).1
+        (each_step (Good (k + 1)) (λ b. Good k (bound_branch x (kind_of_domain domain) (opened (x ∷ scope) p) b)) inner (good_branches s (k + 1) (x ∷ scope) w.1.1 (scope_bound k scope z su))
         (λ b g. record {
           numbers = (refl, g.numbers);
           local = local_more (k + 1 + binds b.items) (k + (binds b.items + 1)) b.writes (omega arith) g.local;
@@ -319,9 +319,9 @@ module _ (sizes : List ℕ) where
   guarded_each p l K bs = then_iff (each_map (λ b. Meaning b l K) (guarded p) bs) (each_pull (λ b (h : Holds sizes l p []). Meaning b l K) bs)
 
   bound_each : (x : Name) (kind : Kind) (p : FormulaTree) (l : Look) (K : Writes → Type 0) (bs : List Branch) →
-      EachOf (λ b. Meaning b l K) (map (bound x kind p) bs)
+      EachOf (λ b. Meaning b l K) (map (bound_branch x kind p) bs)
       ↔ ((v : Value) → IsOf sizes kind v → Holds sizes (set_at l x v) p [] → EachOf (λ b. Meaning b (set_at l x v) K) bs)
-  bound_each x kind p l K bs = then_iff (each_map (λ b. Meaning b l K) (bound x kind p) bs)
+  bound_each x kind p l K bs = then_iff (each_map (λ b. Meaning b l K) (bound_branch x kind p) bs)
       (then_iff (each_pull (λ b v. IsOf sizes kind v → Holds sizes (set_at l x v) p [] → Meaning b (set_at l x v) K) bs)
       (pi_iff (λ v. then_iff (each_pull (λ b (o : IsOf sizes kind v). Holds sizes (set_at l x v) p [] → Meaning b (set_at l x v) K) bs)
       (pi_iff (λ o. each_pull (λ b (h : Holds sizes (set_at l x v) p []). Meaning b (set_at l x v) K) bs)))))
@@ -353,9 +353,9 @@ module _ (sizes : List ℕ) where
   together_each : (a : Branch) (l : Look) (K : Writes → Type 0) (k : ℕ) (b : SubstTree) (bs : List Branch) (look : Look) →
       Good k a → EachOf (Good (k + binds a.items)) bs →
       ((l' : Look) → AgreeUpTo k l l' → (J : Writes → Type 0) → EachOf (λ q. Meaning q l' J) bs ↔ AfterRuns b look J) →
-      EachOf (λ q. Meaning q l K) (map (joined a) bs) ↔ Meaning a l (λ da. AfterRuns b look (λ db. K (da ++ db)))
-  together_each a l K k b bs look g gs h = then_iff (each_map (λ q. Meaning q l K) (joined a) bs)
-      (then_iff (each_with (λ q. Unit {0}) (λ q. Meaning (joined a q) l K)
+      EachOf (λ q. Meaning q l K) (map (joined_branch a) bs) ↔ Meaning a l (λ da. AfterRuns b look (λ db. K (da ++ db)))
+  together_each a l K k b bs look g gs h = then_iff (each_map (λ q. Meaning q l K) (joined_branch a) bs)
+      (then_iff (each_with (λ q. Unit {0}) (λ q. Meaning (joined_branch a q) l K)
       (λ q. Under sizes a.items l (λ l'. Under sizes q.items l' (λ l2. (d : Writes) → ValuesAre sizes (a.writes ++ q.writes) l2 d → K d))) bs (each_unit bs)
       (λ q u. under_append a.items q.items l (λ l2. (d : Writes) → ValuesAre sizes (a.writes ++ q.writes) l2 d → K d)))
       (then_iff (under_each a.items l (λ q l'. Under sizes q.items l' (λ l2. (d : Writes) → ValuesAre sizes (a.writes ++ q.writes) l2 d → K d)) bs)
@@ -377,9 +377,9 @@ module _ (sizes : List ℕ) where
       (λ h. (each_assign x (opened_term scope e) l K (λ v is. h ((x, v) ∷ []) (v, ((opened_value scope look l e v ag w.1.0).0 is, refl))), tt)),
     )
     each_run (Together a b) k scope look l K w f su ag = then_iff
-        (each_flat_map (λ q. Meaning q l K) (λ p. map (joined p) (branches_from (k + binds p.items) scope b)) (branches_from k scope a))
+        (each_flat_map (λ q. Meaning q l K) (λ p. map (joined_branch p) (branches_from (k + binds p.items) scope b)) (branches_from k scope a))
         (then_iff
-        (each_with (Good k) (λ p. EachOf (λ q. Meaning q l K) (map (joined p) (branches_from (k + binds p.items) scope b)))
+        (each_with (Good k) (λ p. EachOf (λ q. Meaning q l K) (map (joined_branch p) (branches_from (k + binds p.items) scope b)))
         (λ p. Meaning p l (λ da. AfterRuns b look (λ db. K (da ++ db)))) (branches_from k scope a) (good_branches a k scope w.0 su)
         (λ p g. together_each p l K k b (branches_from (k + binds p.items) scope b) look g
         (good_branches b (k + binds p.items) scope w.1 (λ y yw. omega (arith, su y yw)))
@@ -405,7 +405,7 @@ module _ (sizes : List ℕ) where
         let ag' : (v : Value) → Agree (x ∷ scope) (set_at look z v) (set_at l x v) = λ v. agree_bound k scope look l z v w.0 su ag in
         let g : (v : Value) → Holds sizes (set_at l x v) (opened (x ∷ scope) p) [] ↔ Holds sizes (set_at look z v) p [] =
         λ v. opened_holds (x ∷ scope) (set_at look z v) (set_at l x v) (ag' v) p [] w.1.0.0 in
-        then_iff (bound_each x (kind_of domain) (opened (x ∷ scope) p) l K (branches_from (k + 1) (x ∷ scope) s))
+        then_iff (bound_each x (kind_of_domain domain) (opened (x ∷ scope) p) l K (branches_from (k + 1) (x ∷ scope) s))
         (then_iff (pi_iff (λ v. pi_iff (λ o. implies_iff (g v) (each_run s (k + 1) (x ∷ scope) (set_at look z v) (set_at l x v) K w.1.1 f.2 su' (ag' v))))) (
           (λ h d r. h r.0 (kind_in sizes z domain look r.0 r.1.0) r.1.1 d r.1.2),
           (λ h v o hp d r. h d (v, (is_in sizes z domain p look v f.0 o hp, hp, r))),

@@ -13,16 +13,16 @@ use Rattle.cb_obligations.proofs.Formulas.{branch_holds, live_holds}
 use Rattle.cb_obligations.proofs.Runs.{EachOf, each_with, Good, good_branches, Meaning, each_run}
 
 module _ (sizes : List ℕ) (look : Look) (env : List Value) (r : FormulaTree) where
-  abbrev Says : Branch → Type 0
+  abbrev pub Says : Branch → Type 0
   Says b = Holds sizes look (branch_formula [] b.items b.writes r) env
 
-  and_each : (f : FormulaTree) (bs : List Branch) → Holds sizes look (and_branches f bs r) env ↔ (Holds sizes look f env × EachOf Says bs)
+  pub and_each : (f : FormulaTree) (bs : List Branch) → Holds sizes look (and_branches f bs r) env ↔ (Holds sizes look f env × EachOf Says bs)
   and_each f [] = ((λ h. (h, tt)), (λ h. h.0))
   and_each f (b ∷ bs) =
       let i = and_each (And f (branch_formula [] b.items b.writes r)) bs in
       ((λ h. ((i.0 h).0.0, ((i.0 h).0.1, (i.0 h).1))), (λ h. i.1 ((h.0, h.1.0), h.1.1)))
 
-  all_each : (bs : List Branch) → Holds sizes look (all_branches bs r) env ↔ EachOf Says bs
+  pub all_each : (bs : List Branch) → Holds sizes look (all_branches bs r) env ↔ EachOf Says bs
   all_each [] = stays
   all_each (b ∷ bs) = and_each (branch_formula [] b.items b.writes r) bs
 

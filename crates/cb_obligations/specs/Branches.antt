@@ -6,7 +6,7 @@ use Rattle.cb_term.specs.Names.{same_name}
 use Rattle.cb_term.specs.Tree as tree
 use Rattle.cb_term.specs.Tree.{TermTree, FormulaTree}
 use Rattle.cb_term.specs.Change.{mapped_term, mapped_formula, bound_stays}
-use Rattle.cb_spec.specs.Domains.{kind_of}
+use Rattle.cb_spec.specs.Domains.{kind_of_domain}
 use Rattle.cb_spec.specs.SubstTree.{SubstTree, Skip, Assign, Together, Choice, If, AnyOf, SubstTrees, End, More}
 
 pub data Item : Type 0 where
@@ -48,11 +48,11 @@ binds (Guard p ∷ is) = binds is
 abbrev pub guarded : FormulaTree → Branch → Branch
 guarded p b = record { items = Guard p ∷ b.items; writes = b.writes }
 
-abbrev pub bound : Name → Kind → FormulaTree → Branch → Branch
-bound x kind p b = record { items = Bind x kind ∷ Guard p ∷ b.items; writes = b.writes }
+abbrev pub bound_branch : Name → Kind → FormulaTree → Branch → Branch
+bound_branch x kind p b = record { items = Bind x kind ∷ Guard p ∷ b.items; writes = b.writes }
 
-abbrev pub joined : Branch → Branch → Branch
-joined a b = record { items = a.items ++ b.items; writes = a.writes ++ b.writes }
+abbrev pub joined_branch : Branch → Branch → Branch
+joined_branch a b = record { items = a.items ++ b.items; writes = a.writes ++ b.writes }
 
 -- `k` names are bound before, and those of them in whose scope the substitution stands are in `scope`
 abbrev mutual
@@ -60,12 +60,12 @@ abbrev mutual
   branches_from k scope Skip = record { items = []; writes = [] } ∷ []
   branches_from k scope (Assign x e) = record { items = []; writes = (x, opened_term scope e) ∷ [] } ∷ []
   branches_from k scope (Together a b) =
-      flat_map (λ p. map (joined p) (branches_from (k + binds p.items) scope b)) (branches_from k scope a)
+      flat_map (λ p. map (joined_branch p) (branches_from (k + binds p.items) scope b)) (branches_from k scope a)
   branches_from k scope (Choice ss) = branches_of_each k scope ss
   branches_from k scope (If p a b) =
       map (guarded (opened scope p)) (branches_from k scope a) ++ map (guarded (tree.Not (opened scope p))) (branches_from k scope b)
   branches_from k scope (AnyOf z domain p s) =
-      map (bound (numbered z (k + 1)) (kind_of domain) (opened (numbered z (k + 1) ∷ scope) p))
+      map (bound_branch (numbered z (k + 1)) (kind_of_domain domain) (opened (numbered z (k + 1) ∷ scope) p))
       (branches_from (k + 1) (numbered z (k + 1) ∷ scope) s)
 
   pub branches_of_each : ℕ → List Name → SubstTrees → List Branch

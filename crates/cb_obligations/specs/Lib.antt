@@ -3,6 +3,7 @@ pub mod Branches
 pub mod Transform
 pub mod Counts
 pub mod Pieces
+pub mod Steps
 pub mod Laws
 pub mod Owed
 pub mod Sufficing

@@ -11,7 +11,7 @@ use Rattle.cb_seq.specs.Validity.{Claim, claim_of, Valid}
 use Rattle.cb_spec.specs.declared.system.Declared.{Declared}
 use Rattle.cb_spec.specs.declared.system.Machine.{Machine}
 use Rattle.cb_spec.specs.declared.system.Operation.{Operation}
-use Rattle.cb_spec.specs.Domains.{kind_of}
+use Rattle.cb_spec.specs.Domains.{kind_of_domain}
 use Rattle.cb_obligations.specs.Transform.{closed_over, transformed, live}
 use Rattle.cb_obligations.specs.Pieces.{pieces}
 
@@ -30,12 +30,12 @@ named g owner part i (q ∷ qs) =
     record { name = record { group = g; owner = owner; part = part; number = i }; claim = q } ∷ named g owner part (i + 1) qs
 
 abbrev pub with_kinds : List Declared → List (Name × Kind)
-with_kinds ds = map (λ (d : Declared). (d.name, kind_of d.domain)) ds
+with_kinds ds = map (λ (d : Declared). (d.name, kind_of_domain d.domain)) ds
 
 -- for all values of the declared names. `xs` are those bound around it, the innermost first
 abbrev pub for_all : List Name → List Declared → FormulaTree → FormulaTree
 for_all xs [] f = closed_over xs f
-for_all xs (d ∷ ds) f = Every d.name (kind_of d.domain) (for_all (d.name ∷ xs) ds f)
+for_all xs (d ∷ ds) f = Every d.name (kind_of_domain d.domain) (for_all (d.name ∷ xs) ds f)
 
 -- under the invariant, for all parameters: where the precondition holds, the formula does
 abbrev pub of_operation : FormulaTree → Operation → FormulaTree → FormulaTree

@@ -7,7 +7,7 @@ use Rattle.cb_term.specs.Tree.{TermTree, FormulaTree, Implies, And, Every, Exist
 use Rattle.cb_term.specs.Change.{mapped_term, mapped_formula, bound_stays}
 use Rattle.cb_term.specs.declared.kind.Domain.{Domain}
 use Rattle.cb_term.specs.Same.{same}
-use Rattle.cb_spec.specs.Domains.{kind_of, typing}
+use Rattle.cb_spec.specs.Domains.{kind_of_domain, typing}
 use Rattle.cb_spec.specs.SubstTree.{SubstTree, Skip, Assign, Together, Choice, If, AnyOf, SubstTrees, End, More}
 use Rattle.cb_obligations.specs.Branches.{Item, Bind, Guard, Assigned, Branch, numbered, branches}
 
@@ -55,12 +55,13 @@ abbrev mutual
   live_under xs (Choice ss) = live_each xs ss
   live_under xs (If p a b) = And (Implies (closed_over xs p) (live_under xs a)) (Implies (tree.Not (closed_over xs p)) (live_under xs b))
   live_under xs (AnyOf z domain p s) = if is_choice z domain p s then tree.True else And
-      (Exist z (kind_of domain) (closed_over (z ∷ xs) p))
-      (Every z (kind_of domain) (Implies (closed_over (z ∷ xs) p) (live_under (z ∷ xs) s)))
+      (Exist z (kind_of_domain domain) (closed_over (z ∷ xs) p))
+      (Every z (kind_of_domain domain) (Implies (closed_over (z ∷ xs) p) (live_under (z ∷ xs) s)))
 
   pub live_each : List Name → SubstTrees → FormulaTree
   live_each xs End = tree.True
-  live_each xs (More s ss) = And (live_under xs s) (live_each xs ss)
+  live_each xs (More s End) = live_under xs s
+  live_each xs (More s (More t ss)) = And (live_under xs s) (live_each xs (More t ss))
 
 abbrev pub live : SubstTree → FormulaTree
 live s = live_under [] s

@@ -1,9 +1,10 @@
 //! Runs the rows of standard input, and prints those that answer otherwise than they state, and how many there are.
 //!
 //! A row begins with `%% run WORDS`, the words of a command. `%% file NAME` begins a file of the row, whose lines follow, with no
-//! line's end behind the last one; `%% times N PIECE` adds a piece to it so many times, with no line's end round it. `%% read N` and
-//! `%% write N` make the Nth read and the Nth write on standard output fail. `%% status N` begins what is printed on both sinks. There
-//! and in a file `%% each N LINE` stands for N lines, with the numbers from 1 to N for `@`.
+//! line's end behind the last one; `%% times N PIECE` adds a piece to it so many times, with no line's end round it. `%% read N` makes
+//! the Nth read fail, `%% write N` the Nth write on standard output, and `%% complain N` the Nth on standard error. `%% status N` begins
+//! what is printed on standard output, and `%% err` what is printed on standard error; `%% cut` takes the end of the last line away.
+//! There and in a file `%% each N LINE` stands for N lines, with the numbers from 1 to N for `@`.
 #![tactic(auto)]
 
 mod row;
@@ -23,20 +24,24 @@ const ROOM: usize = 1 << 20;
 fn agrees<R: Threads + Wait + Sync + Print>(rt: &R, alloc: Global, row: Row) -> io::Result<bool> {
     let mut files = MemFiles::new(alloc, row.files, row.reads)?;
     let mut out = MemSink::new(alloc, 64, row.writes);
-    let mut err = MemSink::new(alloc, 64, Vec::new(alloc));
+    let mut err = MemSink::new(alloc, 64, row.complaints);
     out.reserve(ROOM)?;
     err.reserve(ROOM)?;
     let status = command(
         rt, alloc, &row.words, &mut files, &mut out, &mut err, &NoGate,
     );
-    let mut printed = out.bytes().to_vec(alloc)?;
-    printed.extend_from_slice(err.bytes())?;
-    let holds = row.status == Some(status) && printed == row.printed;
+    let holds = row.status == Some(status)
+        && out.bytes() == row.out.as_slice()
+        && err.bytes() == row.err.as_slice();
     if !holds {
-        let text = str::from_utf8(&printed).unwrap_or("bytes that are no text");
-        println!(rt; "line {}: status {status}\n{text}", row.line)?;
+        println!(rt; "line {}: status {status}", row.line)?;
+        println!(rt; "{}{}", text_of(out.bytes()), text_of(err.bytes()))?;
     }
     Ok(holds)
+}
+
+fn text_of(bytes: &[u8]) -> &str {
+    str::from_utf8(bytes).unwrap_or("bytes that are no text")
 }
 
 fn main(rt: HostRuntime) -> io::Result<()> {

@@ -2,6 +2,14 @@
 
 use std::alloc::{AllocError, Global};
 
+// Where the lines of a row go.
+#[derive(Clone, Copy)]
+enum Section {
+    File,
+    Out,
+    Err,
+}
+
 /// A row, as far as it has been read.
 #[derive(Drop)]
 pub struct Row {
@@ -9,12 +17,17 @@ pub struct Row {
     pub line: u64,
     pub words: Vec<String>,
     pub files: Vec<(String, Vec<u8>)>,
-    /// The reads and the writes that fail, by their numbers.
+    /// The reads that fail, and the writes on standard output and on standard error that do, by their numbers.
     pub reads: Vec<u64>,
     pub writes: Vec<u64>,
+    pub complaints: Vec<u64>,
     /// None where it isn't stated.
     pub status: Option<u8>,
-    pub printed: Vec<u8>,
+    /// What is printed on standard output.
+    pub out: Vec<u8>,
+    /// What is printed on standard error.
+    pub err: Vec<u8>,
+    section: Section,
     // whether a line's end is due before the next line of the file
     ended: bool,
 }
@@ -32,8 +45,11 @@ impl Row {
             files: Vec::new(alloc),
             reads: Vec::new(alloc),
             writes: Vec::new(alloc),
+            complaints: Vec::new(alloc),
             status: None,
-            printed: Vec::new(alloc),
+            out: Vec::new(alloc),
+            err: Vec::new(alloc),
+            section: Section::File,
             ended: false,
         })
     }
@@ -41,19 +57,36 @@ impl Row {
     /// Takes the next line of the row.
     pub fn add(&mut self, alloc: Global, line: &str) -> Result<(), AllocError> {
         match line.strip_prefix("%% ") {
-            Some(rest) => match rest.split_once(' ') {
-                Some((verb, argument)) => self.direct(alloc, verb, argument),
-                None => Ok(()),
-            },
-            None => self.add_line(line),
+            Some("err") => self.section = Section::Err,
+            Some("cut") => self.cut(),
+            Some(rest) => {
+                if let Some((verb, argument)) = rest.split_once(' ') {
+                    self.direct(alloc, verb, argument)?;
+                }
+            }
+            None => self.add_line(line)?,
         }
+        Ok(())
+    }
+
+    // Takes the end of the last line away.
+    fn cut(&mut self) {
+        let _end = match self.section {
+            Section::Err => self.err.pop(),
+            _ => self.out.pop(),
+        };
     }
 
     fn add_line(&mut self, line: &str) -> Result<(), AllocError> {
-        if self.status.is_some() {
-            self.printed.extend_from_slice(line.as_bytes())?;
-            self.printed.push(b'\n')?;
-        } else if let Some(file) = self.files.last_mut() {
+        match self.section {
+            Section::File => self.add_to_file(line),
+            Section::Out => put_line(&mut self.out, line),
+            Section::Err => put_line(&mut self.err, line),
+        }
+    }
+
+    fn add_to_file(&mut self, line: &str) -> Result<(), AllocError> {
+        if let Some(file) = self.files.last_mut() {
             if self.ended {
                 file.1.push(b'\n')?;
             }
@@ -72,9 +105,13 @@ impl Row {
             }
             "times" => self.add_times(argument)?,
             "each" => self.add_each(alloc, argument)?,
-            "read" => self.reads.push(argument.parse::<u64>().unwrap_or(0))?,
-            "write" => self.writes.push(argument.parse::<u64>().unwrap_or(0))?,
-            _ => self.status = argument.parse::<u8>().ok(),
+            "read" => self.reads.push(number_of(argument))?,
+            "write" => self.writes.push(number_of(argument))?,
+            "complain" => self.complaints.push(number_of(argument))?,
+            _ => {
+                self.status = argument.parse::<u8>().ok();
+                self.section = Section::Out;
+            }
         }
         Ok(())
     }
@@ -102,4 +139,14 @@ impl Row {
         }
         Ok(())
     }
+}
+
+fn number_of(argument: &str) -> u64 {
+    argument.parse::<u64>().unwrap_or(0)
+}
+
+fn put_line(text: &mut Vec<u8>, line: &str) -> Result<(), AllocError> {
+    text.extend_from_slice(line.as_bytes())?;
+    text.push(b'\n')?;
+    Ok(())
 }

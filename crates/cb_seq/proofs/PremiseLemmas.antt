@@ -1,5 +1,6 @@
 -- What premises do for their claim, and what arguments that fit are.
-use Rattle.std.proofs.Common.{◌≡◌, ℕ, zero, suc, ℤ, Bool, true, false, List, [], ◌∷◌, ◌++◌, Option, Some, None, refl, ap, ap₂, subst, slice_get, IsTrue, ◌↔◌}
+use Rattle.std.proofs.Common.{◌≡◌, ℕ, zero, suc, ℤ, Bool, true, false, ◌&&◌, List, [], ◌∷◌, ◌++◌, Option, Some, None, refl, ap, ap₂, subst, slice_get, IsTrue, ◌↔◌}
+use Rattle.std.proofs.lemmas.Bool.{and_parts}
 use Rattle.std.proofs.lemmas.Option.{same_Some}
 use Rattle.cb_term.specs.declared.name.Name.{Name}
 use Rattle.cb_term.specs.declared.kind.Kind.{Kind}
@@ -15,7 +16,7 @@ use Rattle.cb_term.proofs.HoldsLemmas.{IsStable, true_stable, by_value, meets_mo
 use Rattle.cb_term.proofs.ValueLemmas.{same_kind_tells}
 use Rattle.cb_seq.specs.declared.premise.Premise.{Premise}
 use Rattle.cb_seq.specs.Kinds.{kind_in, kind_of, fits, Gives}
-use Rattle.cb_seq.specs.Arguments.{is_kind}
+use Rattle.cb_seq.specs.Clear.{is_kind}
 use Rattle.cb_seq.specs.Validity.{Claim, AllHold, Valid, AllFit, Kinded}
 use Rattle.cb_seq.specs.Premises.{hypothesis, premise_of, or_goal, only_where}
 use Rattle.cb_seq.proofs.KindSound.{IsSetKind, by_int, by_set, of_stable, kind_sound}
@@ -84,9 +85,13 @@ module _ (sizes : List ℕ) (q : Claim) (g : Option FormulaTree) (fs : List Form
 
 -- ---- terms with a kind
 
-pub is_kind_tells : (k : Kind) (o : Option Kind) → is_kind k o ≡ true → o ≡ Some k
-is_kind_tells k None e = cc
-is_kind_tells k (Some l) e = ap Some (same_kind_tells l k e)
+kind_tells : (k : Kind) (o : Option Kind) → is_kind k o ≡ true → o ≡ Some k
+kind_tells k None e = cc
+kind_tells k (Some l) e = ap Some (same_kind_tells l k e)
+
+-- a clear term of the kind that is written with it has this kind
+pub is_kind_tells : (clear : Bool) (k : Kind) (o : Option Kind) → (clear && is_kind k o) ≡ true → o ≡ Some k
+is_kind_tells clear k o e = kind_tells k o (and_parts clear (is_kind k o) e).1
 
 module _ (sizes : List ℕ) (look : Look) (names : List (Name × Kind)) (gives : Gives sizes look names) where
   -- for a stable goal the term has a value, and that is of its kind

@@ -3,7 +3,7 @@ use Rattle.std.specs.Prelude.{ℕ, ◌==◌, Bool, true, false, ◌&&◌, List, 
 use Rattle.cb_term.specs.declared.name.Name.{Name}
 use Rattle.cb_term.specs.declared.kind.Kind.{Kind}
 use Rattle.cb_term.specs.declared.kind.Kind.TheVariants as kind
-use Rattle.cb_term.specs.Kinds.{same_base, same_kind}
+use Rattle.cb_term.specs.Kinds.{same_base}
 use Rattle.cb_seq.specs.declared.rule.FormulaArgument.{FormulaArgument}
 use Rattle.cb_seq.specs.declared.rule.FormulaArgument.TheVariants as formula
 use Rattle.cb_seq.specs.declared.rule.TermArgument.{TermArgument}
@@ -11,19 +11,16 @@ use Rattle.cb_seq.specs.declared.rule.TermArgument.TheVariants as term
 use Rattle.cb_seq.specs.declared.rule.Rule.{Rule}
 use Rattle.cb_seq.specs.declared.rule.Rule.TheVariants as rule
 use Rattle.cb_term.specs.Tree.{TermTree}
+use Rattle.cb_seq.specs.Clear.{is_kind, term_is_clear, is_clear}
 use Rattle.cb_seq.specs.Kinds.{kind_of, fits}
 
 abbrev pub formula_fits : List ℕ → List (Name × Kind) → FormulaArgument → Bool
-formula_fits sizes names (formula.Formula f) = fits sizes names [] f
+formula_fits sizes names (formula.Formula f) = is_clear f && fits sizes names [] f
 formula_fits sizes names formula.Unclear = false
 
-abbrev pub is_kind : Kind → Option Kind → Bool
-is_kind k None = false
-is_kind k (Some l) = same_kind l k
-
--- the term has the kind that is written with it
+-- the term is clear, and has the kind that is written with it
 abbrev pub term_fits : List ℕ → List (Name × Kind) → TermArgument → Bool
-term_fits sizes names (term.Term t k) = is_kind k (kind_of sizes names [] t)
+term_fits sizes names (term.Term t k) = term_is_clear t && is_kind k (kind_of sizes names [] t)
 term_fits sizes names (term.Read t) = false
 term_fits sizes names term.Unclear = false
 

@@ -1,6 +1,7 @@
 pub mod Arguments
 pub mod Codes
 pub mod Kinds
+pub mod Clear
 pub mod Laws
 pub mod Premises
 pub mod Size

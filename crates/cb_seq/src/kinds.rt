@@ -7,6 +7,7 @@ ghost use Rattle.cb_term.specs.Tree.{trees_of};
 ghost use Rattle.cb_seq.specs.Kinds as spec;
 ghost use Rattle.cb_seq.specs.Arguments as arguments;
 
+use crate::clear::{is_clear, is_kind, term_is_clear};
 use crate::rule::{FormulaArgument, Rule, TermArgument};
 use cb_term::Memory;
 use cb_term::kind::{Base, Kind};
@@ -267,7 +268,9 @@ fn formula_fits(
     ensures { IfOk result (λ b. b ≡ arguments.formula_fits (sizes_of sets.now) names.now argument.now) }
 {
     match argument {
-        FormulaArgument::Formula(formula) => fits(alloc, sets, names, &[], formula),
+        FormulaArgument::Formula(formula) => {
+            Ok(is_clear(formula) && fits(alloc, sets, names, &[], formula)?)
+        }
         FormulaArgument::Unclear => Ok(false),
     }
 }
@@ -281,10 +284,9 @@ fn term_fits(
     ensures { IfOk result (λ b. b ≡ arguments.term_fits (sizes_of sets.now) names.now argument.now) }
 {
     match argument {
-        TermArgument::Term { term, kind } => match kind_of(alloc, sets, names, &[], term)? {
-            Some(found) => Ok(found.is_same(*kind)),
-            None => Ok(false),
-        },
+        TermArgument::Term { term, kind } => Ok(
+            term_is_clear(term) && is_kind(*kind, kind_of(alloc, sets, names, &[], term)?),
+        ),
         TermArgument::Read(_) | TermArgument::Unclear => Ok(false),
     }
 }

@@ -4,6 +4,7 @@
 
 pub mod among;
 pub mod cert;
+pub mod clear;
 pub mod kinds;
 pub mod laws;
 pub mod premise;

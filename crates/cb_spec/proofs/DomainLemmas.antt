@@ -17,7 +17,7 @@ use Rattle.cb_term.specs.Sets.{has, upwards, range}
 use Rattle.cb_term.specs.Tree.{Var}
 use Rattle.cb_term.specs.Values.{Look, IsOf, AreItems, rel, size_of_set}
 use Rattle.cb_term.specs.Holds.{Holds}
-use Rattle.cb_spec.specs.Domains.{kind_of, Within, AllWithin, In, typing}
+use Rattle.cb_spec.specs.Domains.{kind_of_domain, Within, AllWithin, In, typing}
 
 -- ---- the numbers of a range
 
@@ -96,7 +96,7 @@ module _ (sizes : List ℕ) where
   TypingOf (domain.Subsets lo hi) v = IsTrue (rel Subset v (value.Set (range lo hi)))
   TypingOf (domain.ElemSubsets set) v = IsTrue (rel Subset v (value.Set (upwards (pos 0) (size_of_set sizes set))))
 
-  typed_value : (d : Domain) (v : Value) → In sizes d v ↔ (IsOf sizes (kind_of d) v × TypingOf d v)
+  typed_value : (d : Domain) (v : Value) → In sizes d v ↔ (IsOf sizes (kind_of_domain d) v × TypingOf d v)
   typed_value (domain.Range lo hi) (value.Int x) = ((λ w. (tt, range_has lo hi x w)), (λ p. range_tells lo hi x p.1))
   typed_value domain.Truth (value.Truth true) = ((λ _. (tt, refl)), (λ _. tt))
   typed_value domain.Truth (value.Truth false) = ((λ _. (tt, refl)), (λ _. tt))
@@ -111,7 +111,7 @@ module _ (sizes : List ℕ) where
   typed_value (domain.ElemSubsets set) (value.Set xs) = ((λ s. (s, elements set xs s.1)), (λ p. p.0))
   typed_value d v = ((λ h. absurd h), (λ p. absurd p.0))
 
-  pub domain_typing : (d : Domain) (look : Look) (x : Name) → In sizes d (look x) ↔ (IsOf sizes (kind_of d) (look x) × Holds sizes look (typing (Var x) d) [])
+  pub domain_typing : (d : Domain) (look : Look) (x : Name) → In sizes d (look x) ↔ (IsOf sizes (kind_of_domain d) (look x) × Holds sizes look (typing (Var x) d) [])
   domain_typing (domain.Range lo hi) look x = typed_value (domain.Range lo hi) (look x)
   domain_typing domain.Truth look x = typed_value domain.Truth (look x)
   domain_typing (domain.Elems set) look x = typed_value (domain.Elems set) (look x)

@@ -87,7 +87,7 @@ module _ (table : SetTable) (no_sets : table.sets.items ≡ []) where
     domains = ((omega (arith, ints), tt), refl, tt);
     precondition = typed_digit (set_sizes (shop table)) (scope_in box set_box) (letter 107 ∷ global_names (shop table)) (letter 107) refl;
     body = (small_digit, refl);
-    fits = tt;
+    body_fits = tt;
     writes_results = λ r c. absurd (none_there r c);
     result_kinds = λ r c. absurd (none_there r c);
   }
@@ -129,6 +129,7 @@ module _ (table : SetTable) (no_sets : table.sets.items ≡ []) where
     operands = tt;
     few_silent = λ n k w. omega (arith, w);
     few_silent_after = ((λ n k w. omega (arith, w)), tt);
+    few_branches = omega arith;
   }
 
   takes_typed : TypedDefinition (shop table) 1 till 0 takes
@@ -142,6 +143,7 @@ module _ (table : SetTable) (no_sets : table.sets.items ≡ []) where
     operands = tt;
     few_silent = λ n k w. omega (arith, w);
     few_silent_after = ((λ n k w. omega (arith, w)), ((λ n k w. omega (arith, w)), tt));
+    few_branches = omega arith;
   }
 
   payer_typed : TypedController (shop table) 0 payer
@@ -164,10 +166,15 @@ module _ (table : SetTable) (no_sets : table.sets.items ≡ []) where
     definitions = λ j d e. one takes j d (λ j d. TypedDefinition (shop table) 1 till j d) takes_typed e;
   }
 
+  both_listed : (k : ℕ) → k < 2 → (i : ℕ) × IsAt (0 ∷ 1 ∷ []) i k
+  both_listed zero l = (0, refl)
+  both_listed (suc zero) l = (1, refl)
+  both_listed (suc (suc k)) l = absurd (omega (arith, l))
+
   pub shop_typed : Typed (shop table)
   shop_typed = record {
-    global_names = subst (λ g. AreNew [] g) (sym globals) ((refl, refl), ((refl, refl), ((refl, refl), ((refl, refl), ((refl, refl), tt)))));
-    set_sizes = λ k s e. absurd (nothing_at k s (subst (λ items. IsAt items k s) no_sets e));
+    names_differ = subst (λ g. AreNew [] g) (sym globals) ((refl, refl), ((refl, refl), ((refl, refl), ((refl, refl), ((refl, refl), tt)))));
+    sizes_of_sets = λ k s e. absurd (nothing_at k s (subst (λ items. IsAt items k s) no_sets e));
     few_sets = subst (λ items. length items < 2 ^ 32) (sym no_sets) (omega arith);
     few_machines = omega arith;
     few_channels = omega arith;
@@ -177,6 +184,7 @@ module _ (table : SetTable) (no_sets : table.sets.items ≡ []) where
     order_once = λ i j k e f. two 0 1 i k (λ i k. IsAt (0 ∷ 1 ∷ []) j k → i ≡ j)
         (λ f. two 0 1 j 0 (λ j k. k ≡ 0 → 0 ≡ j) (λ _. refl) (λ e. absurd (omega (arith, e))) f refl)
         (λ f. two 0 1 j 1 (λ j k. k ≡ 1 → 1 ≡ j) (λ e. absurd (omega (arith, e))) (λ _. refl) f refl) e f;
+    listed = both_listed;
     machines = λ k m e. one box k m (λ k m. TypedMachine (shop table) m) box_typed e;
     channels = λ k ch e. one coin k ch (λ k ch. TypedChannel (shop table) ch) coin_typed e;
     controllers = λ i c n. two 0 1 i n.0 (λ i k. IsAt (payer ∷ till ∷ []) k c → TypedController (shop table) i c)

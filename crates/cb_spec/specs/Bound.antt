@@ -7,7 +7,7 @@ use Rattle.cb_term.specs.Names.{same_name}
 use Rattle.cb_term.specs.Values.{Look, nothing, IsOf}
 use Rattle.cb_spec.specs.declared.system.Declared.{Declared}
 use Rattle.cb_spec.specs.Stores.{Writes, over, empty}
-use Rattle.cb_spec.specs.Domains.{kind_of, In}
+use Rattle.cb_spec.specs.Domains.{kind_of_domain, In}
 
 abbrev pub names : List Declared → List Name
 names ds = map (λ (d : Declared). d.name) ds
@@ -27,8 +27,8 @@ bind (x ∷ xs) [] = (x, nothing) ∷ bind xs []
 bind (x ∷ xs) (v ∷ vs) = (x, v) ∷ bind xs vs
 
 -- these names at the values, and no others
-abbrev pub bound : List Name → List Value → Look
-bound xs vs = over (bind xs vs) empty
+abbrev pub bound_look : List Name → List Value → Look
+bound_look xs vs = over (bind xs vs) empty
 
 -- the part of what is written that is written to these names
 abbrev pub only : {A : Type 0} → List Name → List (Name × A) → List (Name × A)
@@ -40,7 +40,7 @@ abbrev pub AreOfKinds : List ℕ → List Declared → List Value → Type 0
 AreOfKinds sizes [] [] = ⊤
 AreOfKinds sizes [] (v ∷ vs) = ⊥
 AreOfKinds sizes (p ∷ ps) [] = ⊥
-AreOfKinds sizes (p ∷ ps) (v ∷ vs) = IsOf sizes (kind_of p.domain) v × AreOfKinds sizes ps vs
+AreOfKinds sizes (p ∷ ps) (v ∷ vs) = IsOf sizes (kind_of_domain p.domain) v × AreOfKinds sizes ps vs
 
 -- one value for each declared name, in its domain
 abbrev pub AreIn : List ℕ → List Declared → List Value → Type 0
@@ -52,4 +52,4 @@ AreIn sizes (p ∷ ps) (v ∷ vs) = In sizes p.domain v × AreIn sizes ps vs
 -- each declared name has a value of its kind
 abbrev pub GivesKinds : List ℕ → List Declared → Look → Type 0
 GivesKinds sizes [] look = ⊤
-GivesKinds sizes (p ∷ ps) look = IsOf sizes (kind_of p.domain) (look p.name) × GivesKinds sizes ps look
+GivesKinds sizes (p ∷ ps) look = IsOf sizes (kind_of_domain p.domain) (look p.name) × GivesKinds sizes ps look

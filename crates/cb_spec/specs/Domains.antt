@@ -16,12 +16,12 @@ use Rattle.cb_term.specs.Tree as tree
 use Rattle.cb_term.specs.Values.{size_of_set, AreItems}
 
 -- the kind of the domain's values
-abbrev pub kind_of : Domain → Kind
-kind_of (domain.Range lo hi) = kind.Integer
-kind_of domain.Truth = kind.Truth
-kind_of (domain.Elems set) = kind.Elem set
-kind_of (domain.Subsets lo hi) = kind.SetOf base.Integer
-kind_of (domain.ElemSubsets set) = kind.SetOf (base.Elem set)
+abbrev pub kind_of_domain : Domain → Kind
+kind_of_domain (domain.Range lo hi) = kind.Integer
+kind_of_domain domain.Truth = kind.Truth
+kind_of_domain (domain.Elems set) = kind.Elem set
+kind_of_domain (domain.Subsets lo hi) = kind.SetOf base.Integer
+kind_of_domain (domain.ElemSubsets set) = kind.SetOf (base.Elem set)
 
 abbrev pub Within : ℤ → ℤ → ℤ → Type 0
 Within lo hi x = (lo ≤ℤ x) × (x ≤ℤ hi)

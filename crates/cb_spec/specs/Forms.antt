@@ -49,18 +49,18 @@ abbrev pub hull : ℤ → ℤ → ℤ → ℤ → Form
 hull lo hi lo' hi' = if int_lt hi lo then Numbers lo' hi' else (if int_lt hi' lo' then Numbers lo hi else Numbers (int_min lo lo') (int_max hi hi'))
 
 -- what has the elements of both, where both are sets of one kind
-abbrev pub joined : Form → Form → Option Form
-joined (Numbers lo hi) (Numbers lo' hi') = Some (hull lo hi lo' hi')
-joined TruthSet TruthSet = Some TruthSet
-joined (Elements j) (Elements k) = if j == k then Some (Elements j) else None
-joined Empty Empty = Some Empty
-joined Empty (Numbers lo hi) = Some (Numbers lo hi)
-joined Empty TruthSet = Some TruthSet
-joined Empty (Elements k) = Some (Elements k)
-joined (Numbers lo hi) Empty = Some (Numbers lo hi)
-joined TruthSet Empty = Some TruthSet
-joined (Elements j) Empty = Some (Elements j)
-joined a b = None
+abbrev pub joined_form : Form → Form → Option Form
+joined_form (Numbers lo hi) (Numbers lo' hi') = Some (hull lo hi lo' hi')
+joined_form TruthSet TruthSet = Some TruthSet
+joined_form (Elements j) (Elements k) = if j == k then Some (Elements j) else None
+joined_form Empty Empty = Some Empty
+joined_form Empty (Numbers lo hi) = Some (Numbers lo hi)
+joined_form Empty TruthSet = Some TruthSet
+joined_form Empty (Elements k) = Some (Elements k)
+joined_form (Numbers lo hi) Empty = Some (Numbers lo hi)
+joined_form TruthSet Empty = Some TruthSet
+joined_form (Elements j) Empty = Some (Elements j)
+joined_form a b = None
 
 abbrev pub is_some_form : Option Form → Bool
 is_some_form None = false
@@ -82,7 +82,7 @@ abbrev pub left_set : Form → Form → Option Form
 left_set Empty (Numbers lo hi) = Some (Numbers (pos 1) (pos 0))
 left_set Empty TruthSet = Some TruthSet
 left_set Empty (Elements k) = Some (Elements k)
-left_set a b = if is_some_form (joined a b) then Some a else None
+left_set a b = if is_some_form (joined_form a b) then Some a else None
 
 abbrev pub product : ℤ → ℤ → ℤ → ℤ → Form
 product a b c d =
@@ -107,7 +107,7 @@ bin_form Div literal (Number a b) (Number c d) =
     if divides a literal then Some (Number (int_div_euclid a (literal_or_one literal)) (int_div_euclid b (literal_or_one literal))) else None
 bin_form Mod literal (Number a b) (Number c d) = if divides a literal then Some (Number (pos 0) (literal_or_one literal -ℤ pos 1)) else None
 bin_form Range literal (Number a b) (Number c d) = Some (Numbers a d)
-bin_form Union literal a b = joined a b
+bin_form Union literal a b = joined_form a b
 bin_form Inter literal a b = left_set a b
 bin_form sign literal a b = None
 
@@ -116,18 +116,18 @@ neg_form (Number a b) = Some (Number (neg_ℤ b) (neg_ℤ a))
 neg_form a = None
 
 abbrev pub card_form : Form → Option Form
-card_form a = if is_some_form (joined a a) then Some (Number (pos 0) (pos 256)) else None
+card_form a = if is_some_form (joined_form a a) then Some (Number (pos 0) (pos 256)) else None
 
 -- whether values of these forms may be related
 abbrev pub may_relate : RelSign → Form → Form → Bool
 may_relate Equal (Number a b) (Number c d) = true
 may_relate Equal Truth Truth = true
 may_relate Equal (Element j) (Element k) = j == k
-may_relate Equal a b = is_some_form (joined a b)
+may_relate Equal a b = is_some_form (joined_form a b)
 may_relate Less (Number a b) (Number c d) = true
 may_relate AtMost (Number a b) (Number c d) = true
-may_relate Member a b = is_some_form (with_both (single a) (Some b) joined)
-may_relate Subset a b = is_some_form (joined a b)
+may_relate Member a b = is_some_form (with_both (single a) (Some b) joined_form)
+may_relate Subset a b = is_some_form (joined_form a b)
 may_relate sign a b = false
 
 -- numbers keep within 2 ^ 62 of 0, and sets of numbers to an interval of 256

@@ -7,13 +7,13 @@ use Rattle.cb_term.specs.Values.{Look, IsOf}
 use Rattle.cb_term.specs.Holds.{Holds}
 use Rattle.cb_spec.specs.SubstTree.{SubstTree, Together}
 use Rattle.cb_spec.specs.Stores.{Writes, found}
-use Rattle.cb_spec.specs.Domains.{kind_of, In, typing}
+use Rattle.cb_spec.specs.Domains.{kind_of_domain, In, typing}
 use Rattle.cb_spec.specs.Runs.{Apart, Runs, Live, writes, reads, Fits}
 
 -- a value is in a domain where it is of the domain's kind and the typing conjunct holds
 abbrev pub DomainIsItsTyping : Type 0
 DomainIsItsTyping = (sizes : List ℕ) (domain : Domain) (look : Look) (x : Name) →
-    In sizes domain (look x) ↔ (IsOf sizes (kind_of domain) (look x) × Holds sizes look (typing (Var x) domain) [])
+    In sizes domain (look x) ↔ (IsOf sizes (kind_of_domain domain) (look x) × Holds sizes look (typing (Var x) domain) [])
 
 -- a run writes to no name but those that are assigned to
 abbrev pub RunsWriteTargets : Type 0

@@ -9,7 +9,7 @@ use Rattle.cb_spec.specs.declared.system.System.{System}
 use Rattle.cb_spec.specs.declared.state.Entry.{Entry}
 use Rattle.cb_spec.specs.declared.state.Entry.TheVariants as entry
 use Rattle.cb_spec.specs.Stores.{Writes}
-use Rattle.cb_spec.specs.Bound.{names, bound}
+use Rattle.cb_spec.specs.Bound.{names, bound_look}
 use Rattle.cb_spec.specs.Machines.{with_args}
 use Rattle.cb_spec.specs.States.{IsAt, StateView}
 use Rattle.cb_spec.specs.Journals.{set_sizes, Step, Run}
@@ -23,7 +23,7 @@ abbrev pub Promised : System → StateView → Entry → Type 0
 Promised y s (entry.Settle i bits) = ⊤
 Promised y s (entry.Op i b k j args results written) =
     (m : Machine) (o : Operation) → IsAt y.machines k m → IsAt m.operations j o → Holds (set_sizes y) (with_args o args s.store) o.pre []
-Promised y s (entry.Pass k sent got vs) = (ch : Channel) → IsAt y.channels k ch → Holds (set_sizes y) (bound (names ch.values) vs) ch.assertion []
+Promised y s (entry.Pass k sent got vs) = (ch : Channel) → IsAt y.channels k ch → Holds (set_sizes y) (bound_look (names ch.values) vs) ch.assertion []
 Promised y s (entry.End c) = ⊤
 
 -- the entry leads rightly from the state to the other

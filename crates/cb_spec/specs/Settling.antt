@@ -6,7 +6,7 @@ use Rattle.cb_term.specs.Values.{Look}
 use Rattle.cb_term.specs.Holds.{Holds, IsValue}
 use Rattle.cb_spec.specs.declared.system.Definition.{Definition}
 use Rattle.cb_spec.specs.ProcessTree.{ProcessTree, Stop, Skip, Call, Prefix, Choice, Internal, If}
-use Rattle.cb_spec.specs.Bound.{names, bound}
+use Rattle.cb_spec.specs.Bound.{names, bound_look}
 use Rattle.cb_spec.specs.States.{IsAt, BranchView, ControlView, Offering, Done}
 
 -- the values of the terms, in order
@@ -38,4 +38,4 @@ Settles sizes ds n (If f p q) env sides c =
     (Holds sizes env f [] × Settles sizes ds n p env sides c) ⊎ ((¬ Holds sizes env f []) × Settles sizes ds n q env sides c)
 Settles sizes ds zero (Call k ts) env sides c = ⊥
 Settles sizes ds (suc n) (Call k ts) env sides c =
-    (d : Definition) × ((vs : List Value) × (IsAt ds k d × AreValues sizes env ts vs × Settles sizes ds n d.body (bound (names d.params) vs) sides c))
+    (d : Definition) × ((vs : List Value) × (IsAt ds k d × AreValues sizes env ts vs × Settles sizes ds n d.body (bound_look (names d.params) vs) sides c))

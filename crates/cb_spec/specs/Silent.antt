@@ -1,5 +1,6 @@
--- What happens in a process without an event: which calls and internal choices are met before a prefix, STOP or SKIP.
-use Rattle.std.specs.Prelude.{ℕ, zero, suc, ◌+◌, ◌<◌, ◌≤◌, ◌≡◌, ◌⊎◌, List, ⊤}
+-- What happens in a process without an event: which calls and internal choices are met before a prefix, STOP or SKIP; and how
+-- many branches it offers.
+use Rattle.std.specs.Prelude.{ℕ, zero, suc, ◌+◌, ◌^◌, ◌<◌, ◌≤◌, ◌≡◌, ◌⊎◌, List, ⊤}
 use Rattle.cb_spec.specs.declared.system.Definition.{Definition}
 use Rattle.cb_spec.specs.ProcessTree.{ProcessTree, Stop, Skip, Call, Prefix, Choice, Internal, If}
 use Rattle.cb_spec.specs.States.{IsAt}
@@ -57,3 +58,17 @@ FewSilentAfter ds (Prefix e p) = FewSilent ds p × FewSilentAfter ds p
 FewSilentAfter ds (Choice p q) = FewSilentAfter ds p × FewSilentAfter ds q
 FewSilentAfter ds (Internal p q) = FewSilentAfter ds p × FewSilentAfter ds q
 FewSilentAfter ds (If f p q) = FewSilentAfter ds p × FewSilentAfter ds q
+
+-- as many branches at most are offered at a time
+abbrev pub prefixes : ProcessTree → ℕ
+prefixes Stop = 0
+prefixes Skip = 0
+prefixes (Call j ts) = 0
+prefixes (Prefix e p) = 1 + prefixes p
+prefixes (Choice p q) = prefixes p + prefixes q
+prefixes (Internal p q) = prefixes p + prefixes q
+prefixes (If f p q) = prefixes p + prefixes q
+
+-- branches are told by numbers of 32 bits
+abbrev pub FewBranches : ProcessTree → Type 0
+FewBranches p = prefixes p < 2 ^ 32

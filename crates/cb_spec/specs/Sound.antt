@@ -1,5 +1,5 @@
 -- When a system is sound: what its obligations say, read over what names stand for. And what is true of each state of a run then.
-use Rattle.std.specs.Prelude.{ℕ, ◌≡◌, true, Option, None, Some, List, [], ◌∷◌, slice_get, IsSomeAnd, Contains, ⊤}
+use Rattle.std.specs.Prelude.{ℕ, ◌≡◌, true, Option, None, Some, List, [], ◌∷◌, length, slice_get, IsSomeAnd, Contains, ⊤}
 use Rattle.cb_term.specs.declared.name.Name.{Name}
 use Rattle.cb_term.specs.declared.value.Value.{Value}
 use Rattle.cb_term.specs.Tree.{FormulaTree}
@@ -15,13 +15,14 @@ use Rattle.cb_spec.specs.declared.system.System.{System}
 use Rattle.cb_spec.specs.declared.state.Entry.{Entry}
 use Rattle.cb_spec.specs.ProcessTree.{ProcessTree, Stop, Skip, Call, Prefix, Choice, Internal, If}
 use Rattle.cb_spec.specs.Stores.{Writes, over, empty}
-use Rattle.cb_spec.specs.Bound.{names, is_among, bind, bound, AreOfKinds, AreIn, GivesKinds}
+use Rattle.cb_spec.specs.Bound.{names, is_among, bind, bound_look, AreOfKinds, AreIn, GivesKinds}
 use Rattle.cb_spec.specs.Runs.{Runs, Live}
 use Rattle.cb_spec.specs.Machines.{with_args, kept}
 use Rattle.cb_spec.specs.States.{IsAt, BranchView, ControlView, AtProcess, Offering, Done, StateView}
 use Rattle.cb_spec.specs.Settling.{AreValues}
 use Rattle.cb_spec.specs.Journals.{set_sizes, IsNumbered, results_after, Run}
 use Rattle.cb_spec.specs.Safe.{Invariants}
+use Rattle.cb_spec.specs.Silent.{OperandsFit, FewSilent, FewSilentAfter, FewBranches}
 use Rattle.cb_spec.specs.Forms.{Form}
 use Rattle.cb_spec.specs.TypedTerms.{Scope, form_in}
 use Rattle.cb_spec.specs.TypedProcesses.{TypedProcess}
@@ -30,13 +31,13 @@ use Rattle.cb_spec.specs.FormValues.{IsOfForm}
 
 -- what a sender owes of the values: its annotation, or the channel's assertion
 abbrev pub Guaranteed : System → Channel → Option FormulaTree → List Value → Type 0
-Guaranteed y ch None vs = Holds (set_sizes y) (bound (names ch.values) vs) ch.assertion []
-Guaranteed y ch (Some f) vs = Holds (set_sizes y) (bound (names ch.values) vs) f []
+Guaranteed y ch None vs = Holds (set_sizes y) (bound_look (names ch.values) vs) ch.assertion []
+Guaranteed y ch (Some f) vs = Holds (set_sizes y) (bound_look (names ch.values) vs) f []
 
 -- what a receiver may build on: the channel's assertion, or the domains and its annotation over its own names
 abbrev pub Assumed : System → Channel → List Name → Option FormulaTree → List Value → Type 0
-Assumed y ch xs None vs = AreOfKinds (set_sizes y) ch.values vs × Holds (set_sizes y) (bound (names ch.values) vs) ch.assertion []
-Assumed y ch xs (Some f) vs = AreIn (set_sizes y) ch.values vs × Holds (set_sizes y) (bound xs vs) f []
+Assumed y ch xs None vs = AreOfKinds (set_sizes y) ch.values vs × Holds (set_sizes y) (bound_look (names ch.values) vs) ch.assertion []
+Assumed y ch xs (Some f) vs = AreIn (set_sizes y) ch.values vs × Holds (set_sizes y) (bound_look xs vs) f []
 
 -- the process of the controller may go on, where its names stand for what `env` says and machine variables for what `store` says
 abbrev pub Sat : System → Controller → ProcessTree → (env store : Look) → Type 0
@@ -65,12 +66,12 @@ Matched y (Call k ts) = ⊤
 Matched y (Prefix (event.Output k ts None) p) = Matched y p
 Matched y (Prefix (event.Output k ts (Some f)) p) =
     ((ch : Channel) → IsAt y.channels k ch → (vs : List Value) → AreOfKinds (set_sizes y) ch.values vs →
-    Holds (set_sizes y) (bound (names ch.values) vs) f [] → Holds (set_sizes y) (bound (names ch.values) vs) ch.assertion [])
+    Holds (set_sizes y) (bound_look (names ch.values) vs) f [] → Holds (set_sizes y) (bound_look (names ch.values) vs) ch.assertion [])
     × Matched y p
 Matched y (Prefix (event.Input k xs None) p) = Matched y p
 Matched y (Prefix (event.Input k xs (Some f)) p) =
     ((ch : Channel) → IsAt y.channels k ch → (vs : List Value) → AreOfKinds (set_sizes y) ch.values vs →
-    Holds (set_sizes y) (bound (names ch.values) vs) ch.assertion [] → Holds (set_sizes y) (bound xs vs) f [])
+    Holds (set_sizes y) (bound_look (names ch.values) vs) ch.assertion [] → Holds (set_sizes y) (bound_look xs vs) f [])
     × Matched y p
 Matched y (Prefix (event.Call k j ts xs) p) = Matched y p
 Matched y (Choice p q) = Matched y p × Matched y q
@@ -105,7 +106,7 @@ pub record SoundController (y : System) (c : Controller) : Type 0 where
       OwnHold y c store → Sat y c (Call c.start c.start_args) empty store
   pub loop : (j : ℕ) (d : Definition) → IsAt c.definitions j d → (store : Look) (vs : List Value) → AreIn (set_sizes y) d.params vs →
       OwnHold y c store → Holds (set_sizes y) (over (bind (names d.params) vs) store) d.invariant [] →
-      Sat y c d.body (bound (names d.params) vs) store
+      Sat y c d.body (bound_look (names d.params) vs) store
   pub match : (j : ℕ) (d : Definition) → IsAt c.definitions j d → Matched y d.body
 
 pub record Sound (y : System) : Type 0 where
@@ -124,6 +125,11 @@ pub record FineProcess (y : System) (i : ℕ) (c : Controller) (p : ProcessTree)
   pub taken : List Name
   pub typed : TypedProcess y (global_names y) i c scope taken p
   pub agrees : Agrees (set_sizes y) scope env
+  -- so it can be resolved, and numbers tell how
+  pub operands : OperandsFit p
+  pub few_silent : FewSilent c.definitions p
+  pub few_silent_after : FewSilentAfter c.definitions p
+  pub few_branches : FewBranches p
   pub matched : Matched y p
   pub sat : Sat y c p env store
 
@@ -137,7 +143,9 @@ FineControl y i c (Offering bs) store = FineBranches y i c bs store
 FineControl y i c Done store = ⊤
 
 -- what holds of each state that is reached
-pub record Fit (y : System) (s : StateView) : Type 0 where
+pub record FitState (y : System) (s : StateView) : Type 0 where
+  -- each number has a control
+  pub placed : length s.controls ≡ length y.order
   pub kinds : (k : ℕ) (m : Machine) → IsAt y.machines k m → GivesKinds (set_sizes y) m.variables s.store
   pub invariants : Invariants y s.store
   pub controls : (i : ℕ) (c : Controller) (k : ControlView) → IsNumbered y i c → IsAt s.controls i k → FineControl y i c k s.store
@@ -147,7 +155,7 @@ pub record Good (y : System) (limit : ℕ) (s0 : Writes) (es : List Entry) (s : 
   pub typed : Typed y
   pub sound : Sound y
   pub run : Run y limit s0 es s
-  pub fit : Fit y s
+  pub fit : FitState y s
 
 -- the same, without a word on the reasons: so a type may keep it
 abbrev pub IsTyped : System → Type 0

@@ -10,12 +10,12 @@ use Rattle.cb_spec.specs.declared.system.Machine.{Machine}
 use Rattle.cb_spec.specs.declared.system.Operation.{Operation}
 use Rattle.cb_spec.specs.declared.system.System.{System}
 use Rattle.cb_spec.specs.ProcessTree.{ProcessTree, Stop, Skip, Call, Prefix, Choice, Internal, If}
-use Rattle.cb_spec.specs.Domains.{kind_of}
+use Rattle.cb_spec.specs.Domains.{kind_of_domain}
 use Rattle.cb_spec.specs.Bound.{names, result_names}
 use Rattle.cb_spec.specs.Forms.{Form, form_of_domain}
 use Rattle.cb_spec.specs.Journals.{set_sizes}
 use Rattle.cb_spec.specs.TypedTerms.{Scope, IsNew, TypedFormula, TypedAs}
-use Rattle.cb_spec.specs.TypedSubsts.{assigned, result_form}
+use Rattle.cb_spec.specs.TypedSubsts.{assigned_form, result_form}
 
 -- each name is new, also among those before it
 abbrev pub AreNew : List Name → List Name → Type 0
@@ -27,7 +27,7 @@ abbrev pub scope_of : List Declared → Scope
 scope_of ds = map (λ (d : Declared). (d.name, form_of_domain d.domain)) ds
 
 abbrev pub kinds_of : List Declared → List Kind
-kinds_of ds = map (λ (d : Declared). kind_of d.domain) ds
+kinds_of ds = map (λ (d : Declared). kind_of_domain d.domain) ds
 
 -- names in the order of the declared ones, with what is known of those
 abbrev pub scope_at : List Name → List Declared → Scope
@@ -41,7 +41,7 @@ scope_in m o = scope_of o.params ++ scope_of m.variables
 
 -- what is known of an operation's results
 abbrev pub result_forms : List ℕ → Machine → Operation → List Form
-result_forms sizes m o = map (λ x. result_form (assigned sizes x (scope_in m o) o.body)) (result_names o.results)
+result_forms sizes m o = map (λ x. result_form (assigned_form sizes x (scope_in m o) o.body)) (result_names o.results)
 
 abbrev pub scope_with : List Name → List Form → Scope
 scope_with [] fs = []

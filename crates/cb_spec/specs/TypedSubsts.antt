@@ -5,19 +5,19 @@ use Rattle.cb_term.specs.declared.name.Name.{Name}
 use Rattle.cb_term.specs.declared.kind.Kind.{Kind}
 use Rattle.cb_term.specs.Names.{same_name}
 use Rattle.cb_spec.specs.SubstTree.{SubstTree, Skip, Assign, Together, Choice, If, AnyOf, SubstTrees, End, More}
-use Rattle.cb_spec.specs.Forms.{Form, Number, Numbers, Empty, form_of_domain, joined}
+use Rattle.cb_spec.specs.Forms.{Form, Number, Numbers, Empty, form_of_domain, joined_form}
 use Rattle.cb_spec.specs.TypedTerms.{Scope, IsNew, IsDomain, IsChoosable, form_of, TypedFormula, TypedAs}
 
-abbrev pub kind_in : List (Name × Kind) → Name → Option Kind
-kind_in [] x = None
-kind_in (p ∷ ps) x = if same_name x p.0 then Some p.1 else kind_in ps x
+abbrev pub kind_of_target : List (Name × Kind) → Name → Option Kind
+kind_of_target [] x = None
+kind_of_target (p ∷ ps) x = if same_name x p.0 then Some p.1 else kind_of_target ps x
 
 -- `targets` has what may be assigned to. An ANY's variable is known in its test and its body
 module _ (sizes : List ℕ) (targets : List (Name × Kind)) where
   abbrev mutual
     pub TypedSubst : Scope → List Name → SubstTree → Type 0
     TypedSubst scope taken Skip = ⊤
-    TypedSubst scope taken (Assign x e) = IsSomeAnd (kind_in targets x) (λ k. TypedAs sizes scope taken k e)
+    TypedSubst scope taken (Assign x e) = IsSomeAnd (kind_of_target targets x) (λ k. TypedAs sizes scope taken k e)
     TypedSubst scope taken (Together a b) = TypedSubst scope taken a × TypedSubst scope taken b
     TypedSubst scope taken (Choice ss) = TypedSides scope taken ss
     TypedSubst scope taken (If p a b) = TypedFormula sizes scope taken [] p × TypedSubst scope taken a × TypedSubst scope taken b
@@ -46,7 +46,7 @@ module _ (x : Name) where
 -- the form of what may be one or the other
 abbrev pub either_form : Form → Form → Form
 either_form (Number a b) (Number c d) = Number (int_min a c) (int_max b d)
-either_form a b = or_left (joined a b)
+either_form a b = or_left (joined_form a b)
   where
     or_left : Option Form → Form
     or_left None = a
@@ -60,17 +60,17 @@ either (Some a) (Some b) = Some (either_form a b)
 -- the form of what is assigned to the name, if anything is
 module _ (sizes : List ℕ) (x : Name) where
   abbrev mutual
-    pub assigned : Scope → SubstTree → Option Form
-    assigned scope Skip = None
-    assigned scope (Assign y e) = if same_name x y then form_of sizes scope [] e else None
-    assigned scope (Together a b) = either (assigned scope a) (assigned scope b)
-    assigned scope (Choice ss) = assigned_in_one scope ss
-    assigned scope (If p a b) = either (assigned scope a) (assigned scope b)
-    assigned scope (AnyOf z d p s) = assigned ((z, form_of_domain d) ∷ scope) s
+    pub assigned_form : Scope → SubstTree → Option Form
+    assigned_form scope Skip = None
+    assigned_form scope (Assign y e) = if same_name x y then form_of sizes scope [] e else None
+    assigned_form scope (Together a b) = either (assigned_form scope a) (assigned_form scope b)
+    assigned_form scope (Choice ss) = assigned_in_one scope ss
+    assigned_form scope (If p a b) = either (assigned_form scope a) (assigned_form scope b)
+    assigned_form scope (AnyOf z d p s) = assigned_form ((z, form_of_domain d) ∷ scope) s
 
     pub assigned_in_one : Scope → SubstTrees → Option Form
     assigned_in_one scope End = None
-    assigned_in_one scope (More s ss) = either (assigned scope s) (assigned_in_one scope ss)
+    assigned_in_one scope (More s ss) = either (assigned_form scope s) (assigned_in_one scope ss)
 
 -- the form of a result: where only `{}` is assigned to it, it is a set of numbers, and where nothing is, it is 0
 abbrev pub result_form : Option Form → Form

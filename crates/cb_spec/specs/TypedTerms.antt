@@ -13,11 +13,11 @@ use Rattle.cb_term.specs.declared.sign.TermSign.TheVariants as sign
 use Rattle.cb_term.specs.Names.{same_name}
 use Rattle.cb_term.specs.Tree.{TermTree, Var, Bound, Num, Truth, Elem, Bin, Neg, Card, Listed, Elems, Truths, Test, TermTrees, End, More, FormulaTree, True, False, Rel, Not, And, Or, Implies, Iff, Every, Exist}
 use Rattle.cb_term.specs.Values.{size_of_set}
-use Rattle.cb_spec.specs.Domains.{kind_of, HasElements, typing}
+use Rattle.cb_spec.specs.Domains.{kind_of_domain, HasElements, typing}
 use Rattle.cb_spec.specs.Bound.{is_among}
 use Rattle.cb_spec.specs.Runs.{HasConjunct}
 use Rattle.cb_spec.specs.Forms as form
-use Rattle.cb_spec.specs.Forms.{Form, form_of_domain, is_some_form, single, joined, with_both, bin_form, neg_form, card_form, may_relate, is_of_kind, IsSmall}
+use Rattle.cb_spec.specs.Forms.{Form, form_of_domain, is_some_form, single, joined_form, with_both, bin_form, neg_form, card_form, may_relate, is_of_kind, IsSmall}
 
 -- what is known of names
 abbrev pub Scope : Type 0
@@ -82,7 +82,7 @@ module _ (sizes : List ℕ) (scope : Scope) where
 
     pub form_of_listed : Scope → TermTrees → Option Form
     form_of_listed inner End = Some form.Empty
-    form_of_listed inner (More t ts) = with_both (then_form (form_of inner t) single) (form_of_listed inner ts) joined
+    form_of_listed inner (More t ts) = with_both (then_form (form_of inner t) single) (form_of_listed inner ts) joined_form
 
   -- the term has a form, and its numbers are small
   abbrev pub HasSmallForm : Scope → TermTree → Type 0
@@ -129,9 +129,9 @@ module _ (sizes : List ℕ) (scope : Scope) (taken : List Name) where
     TypedFormula inner (Or f g) = TypedFormula inner f × TypedFormula inner g
     TypedFormula inner (Implies f g) = TypedFormula inner f × TypedFormula inner g
     TypedFormula inner (Iff f g) = TypedFormula inner f × TypedFormula inner g
-    TypedFormula inner (Every x kind f) = (d : Domain) × (HasConjunct (typing (Bound 0) d) (premise_of f) × (kind_of d ≡ kind)
+    TypedFormula inner (Every x kind f) = (d : Domain) × (HasConjunct (typing (Bound 0) d) (premise_of f) × (kind_of_domain d ≡ kind)
         × IsDomain sizes d × IsChoosable sizes d × IsNew (taken ++ names_in inner) x × TypedFormula ((x, form_of_domain d) ∷ inner) f)
-    TypedFormula inner (Exist x kind f) = (d : Domain) × (HasConjunct (typing (Bound 0) d) f × (kind_of d ≡ kind)
+    TypedFormula inner (Exist x kind f) = (d : Domain) × (HasConjunct (typing (Bound 0) d) f × (kind_of_domain d ≡ kind)
         × IsDomain sizes d × IsChoosable sizes d × IsNew (taken ++ names_in inner) x × TypedFormula ((x, form_of_domain d) ∷ inner) f)
 
 -- the term is typed, and may stand where one of the kind is wanted

@@ -1,4 +1,4 @@
--- A text that `check` accepts is safe.
+-- A text on which `check` ends with status 0 is accepted, and its machines are safe.
 use Rattle.std.proofs.Common.{◌≡◌, ℕ, zero, suc, ◌+◌, ◌-◌, ◌^◌, ◌<◌, ◌≤◌, false, List, [], ◌∷◌, ◌++◌, map, length, drop, Option, Some, None, refl, sym, ap, ◌∙◌, subst, arith, append-nil}
 use Rattle.std.proofs.lemmas.List.{length-drop}
 use Rattle.std.proofs.lemmas.Option.{same_Some}
@@ -15,7 +15,7 @@ use Rattle.cb_spec.specs.Typed.{Typed}
 use Rattle.cb_obligations.specs.Owed.{Owed, owed_of, machine_owes, AllOwedValid}
 use Rattle.cb_obligations.specs.Sufficing.{ObligationsSuffice, SoundIsCallSafe}
 use Rattle.cb_typed.specs.Laws.{TypedMachinesFit, TypedMachinesKeepKinds, AllOwedKinded, TypedMachinesOweKinded}
-use Rattle.cb_typing.specs.WholeLaws.{WellFormedIsTyped}
+use Rattle.cb_text_laws.specs.Laws.{WellFormedIsTyped}
 use Rattle.cb_typing.specs.WrittenText.{IsWrittenText}
 use Rattle.cb_spelled.specs.Laws.{SpelledIsWritten, TokensAreBytes}
 use Rattle.cb_check.specs.Derives.{first_bad}
@@ -26,7 +26,7 @@ use Rattle.cb_verdicts.specs.Certificates.{cert_of}
 use Rattle.cb_verdicts.specs.Owed.{all_owed, AreOwed}
 use Rattle.cb_verdicts.specs.Proofs.{proof_of}
 use Rattle.cb_verdicts.specs.Verdicts.{verdict_by, verdict_on, verdict_of, verdicts}
-use Rattle.cb_words.specs.declared.request.Request.TheVariants.{Check}
+use Rattle.cb_words.specs.declared.request.Request.TheVariants as request
 use Rattle.cb_lex.specs.declared.lexer.LexFault.{LexFault}
 use Rattle.cb_lex.specs.declared.lexer.LexFault.TheVariants.{BadByte, LongNumber, OpenComment, Memory}
 use Rattle.cb_grammar.specs.declared.parts.Part.TheVariants as part
@@ -37,12 +37,12 @@ use Rattle.cb_amn_parse.specs.Processes.{text_out}
 use Rattle.cb_amn_parse.specs.Spelling.{IsSpelled}
 use Rattle.cb_verdicts.specs.declared.places.ProofFault.{ProofFault}
 use Rattle.cb_verdicts.specs.declared.places.ProofFault.TheVariants as wrong
-use Rattle.cb_top.specs.Outcome.{Answer, too_long, lexical, cut, refused_text, refused_proofs, spelled, IsJudged, unbuilt, ill, limited, answered, wrong_proof, right_proofs, open_status, lexical_answer, syntax_answer, proof_answer, SpellsText, SpellsProofs}
+use Rattle.cb_top.specs.Outcome.{Answer, too_long, lexical, cut, refused_text, refused_proofs, spelled, IsJudged, unbuilt, ill, limited, answered, wrong_proof, right_proofs, open_status, IsLexicalAnswer, IsSyntaxAnswer, IsProofAnswer, SpellsText, SpellsProofs}
 use Rattle.cb_lex.specs.Lexes.{Lexes, start}
 use Rattle.cb_lex.specs.declared.raw.text.RawText.{RawText}
 use Rattle.cb_lex.specs.declared.token.Token.{Token}
 use Rattle.std.specs.Prelude.{Ok}
-use Rattle.cb_top.specs.Safe.{IsSafe, AcceptedIsSafe}
+use Rattle.cb_top.specs.Accepted.{Accepted, DoneIsAccepted}
 use Rattle.cb_top.specs.declared.TheConstants.{MAX_BYTES}
 
 -- ---- lists
@@ -92,22 +92,22 @@ module _ (valid : DerivedIsValid) (no_bad : DerivesWithoutBad) (sizes : List ℕ
 status_of : {a b : Answer} → a ≡ b → a.status ≡ 0 → b.status ≡ 0
 status_of e s = sym (ap (λ (x : Answer). x.status) e) ∙ s
 
-not_lexical : (f : LexFault) → (lexical_answer f).status ≡ 0 → ⊥
-not_lexical (BadByte p) h = omega (arith, h)
-not_lexical (LongNumber p) h = omega (arith, h)
-not_lexical (OpenComment p) h = omega (arith, h)
-not_lexical (Memory e) h = omega (arith, h)
+not_lexical : (f : LexFault) (answer : Answer) → IsLexicalAnswer f answer → answer.status ≡ 0 → ⊥
+not_lexical (BadByte p) answer e s = omega (arith, status_of e s)
+not_lexical (LongNumber p) answer e s = omega (arith, status_of e s)
+not_lexical (OpenComment p) answer e s = omega (arith, status_of e s)
+not_lexical (Memory m) answer e s = e
 
-not_syntax : (f : SyntaxFault) → (syntax_answer f).status ≡ 0 → ⊥
-not_syntax (syntax.Syntax p) h = omega (arith, h)
-not_syntax (syntax.Mixed p) h = omega (arith, h)
-not_syntax (syntax.Deep p) h = omega (arith, h)
-not_syntax syntax.Memory h = omega (arith, h)
+not_syntax : (f : SyntaxFault) (answer : Answer) → IsSyntaxAnswer f answer → answer.status ≡ 0 → ⊥
+not_syntax (syntax.Syntax p) answer e s = omega (arith, status_of e s)
+not_syntax (syntax.Mixed p) answer e s = omega (arith, status_of e s)
+not_syntax (syntax.Deep p) answer e s = omega (arith, status_of e s)
+not_syntax syntax.Memory answer e s = e
 
-not_proof : (f : ProofFault) → (proof_answer f).status ≡ 0 → ⊥
-not_proof (wrong.Unknown n) h = omega (arith, h)
-not_proof (wrong.Double n) h = omega (arith, h)
-not_proof wrong.Memory h = omega (arith, h)
+not_proof : (f : ProofFault) (answer : Answer) → IsProofAnswer f answer → answer.status ≡ 0 → ⊥
+not_proof (wrong.Unknown n) answer e s = omega (arith, status_of e s)
+not_proof (wrong.Double n) answer e s = omega (arith, status_of e s)
+not_proof wrong.Memory answer e s = e
 
 -- ---- the text
 
@@ -130,13 +130,13 @@ module _ (valid : DerivedIsValid) (no_bad : DerivesWithoutBad) (kinded : TypedMa
       let here = valid_at (set_sizes y) y.machines (subst (AllOwedValid (set_sizes y)) owed all) k m at in
       sound y m (keep y t k m at) (suffice y m (fit y t k m at) here)
 
-  judged_safe : (files : List (List ℕ)) (bytes : List ℕ) → length bytes ≤ MAX_BYTES → (tokens : List Token) → Lexes bytes start (Ok tokens) → (at : ℕ) (t : RawText) → SpellsText tokens at t →
-      (ps : List RawProof) → SpellsProofs tokens at ps → (answer : Answer) → IsJudged (Check files) t ps answer → answer.status ≡ 0 → IsSafe bytes
-  judged_safe files bytes fits tokens cuts at t spells ps proves answer (unbuilt n e) s = absurd (omega (arith, status_of e s))
-  judged_safe files bytes fits tokens cuts at t spells ps proves answer (ill j f h e) s = absurd (omega (arith, status_of e s))
-  judged_safe files bytes fits tokens cuts at t spells ps proves answer (limited y w l h e) s = absurd (omega (arith, status_of e s))
-  judged_safe files bytes fits tokens cuts at t spells ps proves answer (answered y w n os owed (wrong_proof f h e)) s = absurd (not_proof f (status_of e s))
-  judged_safe files bytes fits tokens cuts at t spells ps proves answer (answered y w n os owed (right_proofs h e)) s =
+  judged_accepted : (files : List (List ℕ)) (bytes : List ℕ) → length bytes ≤ MAX_BYTES → (tokens : List Token) → Lexes bytes start (Ok tokens) → (at : ℕ) (t : RawText) → SpellsText tokens at t →
+      (ps : List RawProof) → SpellsProofs tokens at ps → (answer : Answer) → IsJudged (request.Check files) t ps answer → answer.status ≡ 0 → Accepted bytes
+  judged_accepted files bytes fits tokens cuts at t spells ps proves answer (unbuilt n e) s = absurd (omega (arith, status_of e s))
+  judged_accepted files bytes fits tokens cuts at t spells ps proves answer (ill j f h e) s = absurd (omega (arith, status_of e s))
+  judged_accepted files bytes fits tokens cuts at t spells ps proves answer (limited y w l h e) s = absurd (omega (arith, status_of e s))
+  judged_accepted files bytes fits tokens cuts at t spells ps proves answer (answered y w n os owed (wrong_proof f h e)) s = absurd (not_proof f answer e s)
+  judged_accepted files bytes fits tokens cuts at t spells ps proves answer (answered y w n os owed (right_proofs h e)) s =
       let y_typed = typed t.machines (text_written written counted bytes fits tokens cuts at t spells) w.well_formed y w.system in
       record {
         tokens = tokens;
@@ -148,12 +148,19 @@ module _ (valid : DerivedIsValid) (no_bad : DerivesWithoutBad) (kinded : TypedMa
         proofs_spelled = proves;
         system = y;
         well = w;
+        within = n;
+        obligations = os;
+        owed = owed;
+        right = h;
+        proved = no_status _ (status_of e s);
         safe = safe_machines y y_typed os owed ps (no_status _ (status_of e s));
       }
 
-  pub accepted_safe : AcceptedIsSafe
-  accepted_safe files bytes answer (too_long h e) s = absurd (omega (arith, status_of e s))
-  accepted_safe files bytes answer (lexical l f h e) s = absurd (not_lexical f (status_of e s))
-  accepted_safe files bytes answer (cut l tokens cuts (refused_text f h e)) s = absurd (not_syntax f (status_of e s))
-  accepted_safe files bytes answer (cut l tokens cuts (refused_proofs at t spells f h e)) s = absurd (not_syntax f (status_of e s))
-  accepted_safe files bytes answer (cut l tokens cuts (spelled at t spells ps proves j)) s = judged_safe files bytes l tokens cuts at t spells ps proves answer j s
+  pub done_accepted : DoneIsAccepted
+  done_accepted (request.List files) bytes answer takes o s = absurd takes
+  done_accepted (request.Check files) bytes answer takes (too_long h e) s = absurd (omega (arith, status_of e s))
+  done_accepted (request.Check files) bytes answer takes (lexical l f h e) s = absurd (not_lexical f answer e s)
+  done_accepted (request.Check files) bytes answer takes (cut l tokens cuts (refused_text f h e)) s = absurd (not_syntax f answer e s)
+  done_accepted (request.Check files) bytes answer takes (cut l tokens cuts (refused_proofs at t spells f h e)) s = absurd (not_syntax f answer e s)
+  done_accepted (request.Check files) bytes answer takes (cut l tokens cuts (spelled at t spells ps proves j)) s =
+      judged_accepted files bytes l tokens cuts at t spells ps proves answer j s

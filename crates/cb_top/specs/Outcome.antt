@@ -1,5 +1,5 @@
 -- What a request answers on the bytes of its files: a status, and what is printed.
-use Rattle.std.specs.Prelude.{◌≡◌, ℕ, zero, suc, ◌==◌, ◌≤◌, ◌<◌, false, true, ◌+◌, List, [], ◌∷◌, ◌++◌, length, drop, codes, Ok, Err, Some, None, if◌then◌else◌, ⊤}
+use Rattle.std.specs.Prelude.{◌≡◌, ◌⊎◌, ℕ, zero, suc, ◌==◌, ◌≤◌, ◌<◌, false, true, ◌+◌, List, [], ◌∷◌, ◌++◌, length, drop, codes, Ok, Err, Option, Some, None, if◌then◌else◌}
 use Rattle.std.specs.Fmt.{decimal}
 use Rattle.cb_term.specs.Table.{sizes_of}
 use Rattle.cb_lex.specs.Lexes.{Lexes, start}
@@ -39,6 +39,8 @@ use Rattle.cb_top.specs.declared.outcome.Refusal.{Refusal}
 use Rattle.cb_top.specs.declared.outcome.Refusal.TheVariants.{IllFormed, Limit}
 use Rattle.cb_top.specs.declared.outcome.Outcome.{Outcome}
 use Rattle.cb_top.specs.declared.outcome.Outcome.TheVariants as outcome
+use Rattle.cb_top.specs.Joined.{Agree}
+use Rattle.cb_top.specs.Request.{bytes_of}
 use Rattle.cb_top.specs.declared.TheConstants.{MAX_BYTES}
 
 -- the status, the bytes for `out` and the bytes for `err`
@@ -83,19 +85,19 @@ ill_formed code subject = record { status = 2; out = []; err = line_of (codes "f
 abbrev pub place_text : Place → List ℕ
 place_text place = decimal place.line ++ 58 ∷ decimal place.col
 
--- the answer to a lexical fault (want of memory is none)
-abbrev pub lexical_answer : LexFault → Answer
-lexical_answer (BadByte place) = ill_formed (codes "BadByte ") (place_text place)
-lexical_answer (LongNumber place) = ill_formed (codes "LongNumber ") (place_text place)
-lexical_answer (OpenComment place) = ill_formed (codes "OpenComment ") (place_text place)
-lexical_answer (Memory e) = record { status = 6; out = []; err = memory_line }
+-- the answer to a lexical fault; want of memory has none
+abbrev pub IsLexicalAnswer : LexFault → Answer → Type 0
+IsLexicalAnswer (BadByte place) answer = answer ≡ ill_formed (codes "BadByte ") (place_text place)
+IsLexicalAnswer (LongNumber place) answer = answer ≡ ill_formed (codes "LongNumber ") (place_text place)
+IsLexicalAnswer (OpenComment place) answer = answer ≡ ill_formed (codes "OpenComment ") (place_text place)
+IsLexicalAnswer (Memory e) answer = ⊥
 
--- the answer to a fault of the syntax (want of memory is none)
-abbrev pub syntax_answer : SyntaxFault → Answer
-syntax_answer (syntax.Syntax place) = ill_formed (codes "Syntax ") (place_text place)
-syntax_answer (syntax.Mixed place) = ill_formed (codes "Mixed ") (place_text place)
-syntax_answer (syntax.Deep place) = ill_formed (codes "Deep ") (place_text place)
-syntax_answer syntax.Memory = record { status = 6; out = []; err = memory_line }
+-- the answer to a fault of the syntax; want of memory has none
+abbrev pub IsSyntaxAnswer : SyntaxFault → Answer → Type 0
+IsSyntaxAnswer (syntax.Syntax place) answer = answer ≡ ill_formed (codes "Syntax ") (place_text place)
+IsSyntaxAnswer (syntax.Mixed place) answer = answer ≡ ill_formed (codes "Mixed ") (place_text place)
+IsSyntaxAnswer (syntax.Deep place) answer = answer ≡ ill_formed (codes "Deep ") (place_text place)
+IsSyntaxAnswer syntax.Memory answer = ⊥
 
 -- ---- texts of machines
 
@@ -128,16 +130,11 @@ which_word which.Nodes = codes "nodes"
 abbrev pub limit_answer : List ℕ → Answer
 limit_answer word = record { status = 7; out = []; err = line_of (codes "fault limit " ++ word) }
 
--- the answer to a proof that is of no obligation, or of one that an earlier proof is of (want of memory is none)
-abbrev pub proof_answer : ProofFault → Answer
-proof_answer (wrong.Unknown n) = ill_formed (codes "UnknownProof ") (obligation_text n)
-proof_answer (wrong.Double n) = ill_formed (codes "DoubleProof ") (obligation_text n)
-proof_answer wrong.Memory = record { status = 6; out = []; err = memory_line }
-
--- want of memory is no wrong proof
-abbrev pub IsWrongProof : ProofFault → Type 0
-IsWrongProof wrong.Memory = ⊥
-IsWrongProof f = ⊤
+-- the answer to a proof that is of no obligation, or of one that an earlier proof is of; want of memory has none
+abbrev pub IsProofAnswer : ProofFault → Answer → Type 0
+IsProofAnswer (wrong.Unknown n) answer = answer ≡ ill_formed (codes "UnknownProof ") (obligation_text n)
+IsProofAnswer (wrong.Double n) answer = answer ≡ ill_formed (codes "DoubleProof ") (obligation_text n)
+IsProofAnswer wrong.Memory answer = ⊥
 
 -- 0 where none is open, else 1
 abbrev pub open_status : ℕ → ℕ
@@ -147,15 +144,15 @@ open_status (suc k) = 1
 abbrev pub verdict_answer : List (ObName × Verdict) → Answer
 verdict_answer ls = record { status = open_status (open_count ls); out = verdict_text ls; err = [] }
 
--- the answer on these obligations of a system, each with at most one proof
-abbrev pub answer_to : Request → System → List Obligation → List RawProof → Answer
-answer_to (request.List files) y os ps = record { status = 0; out = listing_text y.sets.sets.items os; err = [] }
-answer_to (request.Check files) y os ps = verdict_answer (verdicts (sizes_of y.sets) (symbols_of y) ps os)
+-- what may be answered on these obligations of a system, each with at most one proof
+abbrev pub IsAnswer : Request → System → List Obligation → List RawProof → Answer → Type 0
+IsAnswer (request.List files) y os ps answer = answer ≡ record { status = 0; out = listing_text y.sets.sets.items os; err = [] }
+IsAnswer (request.Check files) y os ps answer = answer ≡ verdict_answer (verdicts (sizes_of y.sets) (symbols_of y) ps os)
 
 -- the first wrong proof is told; else all are judged
 pub data IsAnswered (asked : Request) (y : System) (os : List Obligation) (ps : List RawProof) (answer : Answer) : Type 0 where
-  wrong_proof : (f : ProofFault) → first_wrong (keys_of os) [] ps ≡ Some f → answer ≡ proof_answer f → IsAnswered asked y os ps answer
-  right_proofs : first_wrong (keys_of os) [] ps ≡ None → answer ≡ answer_to asked y os ps → IsAnswered asked y os ps answer
+  wrong_proof : (f : ProofFault) → first_wrong (keys_of os) [] ps ≡ Some f → IsProofAnswer f answer → IsAnswered asked y os ps answer
+  right_proofs : first_wrong (keys_of os) [] ps ≡ None → IsAnswer asked y os ps answer → IsAnswered asked y os ps answer
 
 -- what is judged: a text of machines alone
 abbrev pub IsJudgeable : RawText → Type 0
@@ -185,14 +182,24 @@ SpellsProofs tokens at ps = (to : ℕ) × SpellsFrom part.Proofs 0 true tokens a
 
 -- what may be answered to a request on these tokens: the first fault of the text's syntax, or of its proofs', or what is judged of them
 pub data IsReadAndJudged (asked : Request) (tokens : List Token) (answer : Answer) : Type 0 where
-  refused_text : (fault : SyntaxFault) → Misread part.Text 0 false tokens fault → answer ≡ syntax_answer fault → IsReadAndJudged asked tokens answer
+  refused_text : (fault : SyntaxFault) → Misread part.Text 0 false tokens fault → IsSyntaxAnswer fault answer → IsReadAndJudged asked tokens answer
   refused_proofs : (at : ℕ) (t : RawText) → SpellsText tokens at t → (fault : SyntaxFault) → Misread part.Proofs 0 true (drop at tokens) fault →
-      answer ≡ syntax_answer fault → IsReadAndJudged asked tokens answer
+      IsSyntaxAnswer fault answer → IsReadAndJudged asked tokens answer
   spelled : (at : ℕ) (t : RawText) → SpellsText tokens at t → (ps : List RawProof) → SpellsProofs tokens at ps → IsJudged asked t ps answer →
       IsReadAndJudged asked tokens answer
 
 -- what may be answered to a request on these bytes
 pub data IsOutcome (asked : Request) (bytes : List ℕ) (answer : Answer) : Type 0 where
   too_long : MAX_BYTES < length bytes → answer ≡ limit_answer (codes "bytes") → IsOutcome asked bytes answer
-  lexical : length bytes ≤ MAX_BYTES → (fault : LexFault) → Lexes bytes start (Err fault) → answer ≡ lexical_answer fault → IsOutcome asked bytes answer
+  lexical : length bytes ≤ MAX_BYTES → (fault : LexFault) → Lexes bytes start (Err fault) → IsLexicalAnswer fault answer → IsOutcome asked bytes answer
   cut : length bytes ≤ MAX_BYTES → (tokens : List Token) → Lexes bytes start (Ok tokens) → IsReadAndJudged asked tokens answer → IsOutcome asked bytes answer
+
+-- what may be answered to a request whose files have these names: there are contents, those that are told where they are told, with this outcome
+pub record IsOutcomeOf (asked : Request) (names : List (List ℕ)) (held : List ℕ → Option (List ℕ)) (answer : Answer) : Type 0 where
+  pub contents : List (List ℕ)
+  pub agree : Agree held names contents
+  pub outcome : IsOutcome asked (bytes_of asked contents) answer
+
+-- the status of each outcome is 0, 1, 2 or 7
+abbrev pub OutcomesHaveStatuses : Type 0
+OutcomesHaveStatuses = (asked : Request) (bytes : List ℕ) (answer : Answer) → IsOutcome asked bytes answer → (answer.status ≤ 2) ⊎ (answer.status ≡ 7)

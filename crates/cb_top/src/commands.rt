@@ -1,16 +1,15 @@
 //! The calls that do all that the program does.
-ghost use Rattle.std.specs.Prelude.{◌≡◌, ◌≢◌, ℕ, List, map, string_bytes, MatchOption, Some};
+ghost use Rattle.std.specs.Prelude.{◌≡◌, ◌≢◌, map, string_bytes, MatchOption, Some, None};
 ghost use Rattle.cb_words.specs.Spelled.{spelled};
 ghost use Rattle.cb_top.specs.Change.{change, sources};
-ghost use Rattle.cb_top.specs.Joined.{joined, AreHeld, CanBeRead};
-ghost use Rattle.cb_top.specs.Safe.{IsSafe};
-ghost use Rattle.cb_words.specs.declared.request.Request.TheVariants as variants;
+ghost use Rattle.cb_top.specs.Accepted.{HoldsAccepted};
+ghost use Rattle.cb_top.specs.Sure.{CanBeRead, CanTake, IsText, IsLine, IsWordsLine};
 ghost use Rattle.cb_top.specs.Answers.{Answers, WordsAnswers};
-ghost use Rattle.cb_top.specs.Request.{names_of};
+ghost use Rattle.cb_top.specs.Request.{names_of, TakesAccepted};
 ghost use Rattle.cb_top.specs.Outcome.{ending_status, refusal_status};
 
 use crate::judge::answer;
-use crate::laws::accepted_is_safe;
+use crate::laws::done_is_accepted;
 use crate::outcome::{Ending, Outcome, Refusal, Stop};
 use crate::print::{print_line, print_text};
 use cb_edge::{Files, Gate, Sink};
@@ -39,8 +38,12 @@ pub fn command<R: Threads + Wait + Sync, F: Files, K: Sink, E: Sink, G: Gate + S
         (change K.written K.faults out.old out.new) (change E.written E.faults err.old err.new) result) }
     ensures reads { (request : Request) → spelled (map string_bytes words.now) ≡ Some request →
         CanBeRead (F.sure files.old) (F.faults files.old) (names_of request) → result ≢ 4 }
-    ensures safe { (names : List (List ℕ)) → spelled (map string_bytes words.now) ≡ Some (variants.Check names) → result ≡ 0 →
-        (contents : List (List ℕ)) → AreHeld (F.held files.old) names contents → IsSafe (joined contents) }
+    ensures writes { (request : Request) → spelled (map string_bytes words.now) ≡ Some request →
+        CanTake (K.sure out.old) (K.faults out.old) (IsText request (names_of request) (F.held files.old)) →
+        CanTake (E.sure err.old) (E.faults err.old) (IsLine request (names_of request) (F.held files.old)) → result ≢ 5 }
+    ensures writes_words { spelled (map string_bytes words.now) ≡ None → CanTake (E.sure err.old) (E.faults err.old) IsWordsLine → result ≢ 5 }
+    ensures accepted { (request : Request) → spelled (map string_bytes words.now) ≡ Some request → TakesAccepted request → result ≡ 0 →
+        HoldsAccepted request (names_of request) (F.held files.old) }
 {
     match words_of(alloc, words) {
         Ok(request) => quiet_command(alloc, &request, files, out, err),
@@ -60,10 +63,11 @@ pub fn quiet_command<F: Files, K: Sink, E: Sink>(
     ensures answers { Answers request.now (names_of request.now) (sources F.held F.faults files.old files.new)
         (change K.written K.faults out.old out.new) (change E.written E.faults err.old err.new) result }
     ensures reads { CanBeRead (F.sure files.old) (F.faults files.old) (names_of request.now) → result ≢ 4 }
-    ensures safe { (names : List (List ℕ)) → request.now ≡ variants.Check names → result ≡ 0 → (contents : List (List ℕ)) →
-        AreHeld (F.held files.old) (names_of request.now) contents → IsSafe (joined contents) }
+    ensures writes { CanTake (K.sure out.old) (K.faults out.old) (IsText request.now (names_of request.now) (F.held files.old)) →
+        CanTake (E.sure err.old) (E.faults err.old) (IsLine request.now (names_of request.now) (F.held files.old)) → result ≢ 5 }
+    ensures accepted { TakesAccepted request.now → result ≡ 0 → HoldsAccepted request.now (names_of request.now) (F.held files.old) }
 {
-    accepted_is_safe();
+    done_is_accepted();
     respond(alloc, request, files, out, err)
 }
 
@@ -78,6 +82,8 @@ fn respond<F: Files, K: Sink, E: Sink>(
     ensures answers { Answers request.now (names_of request.now) (sources F.held F.faults files.old files.new)
         (change K.written K.faults out.old out.new) (change E.written E.faults err.old err.new) result }
     ensures reads { CanBeRead (F.sure files.old) (F.faults files.old) (names_of request.now) → result ≢ 4 }
+    ensures writes { CanTake (K.sure out.old) (K.faults out.old) (IsText request.now (names_of request.now) (F.held files.old)) →
+        CanTake (E.sure err.old) (E.faults err.old) (IsLine request.now (names_of request.now) (F.held files.old)) → result ≢ 5 }
 {
     match answer(alloc, request, file_names(request), files) {
         Ok(Outcome::Text { ending, text }) => {

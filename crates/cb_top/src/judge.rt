@@ -2,10 +2,9 @@
 ghost use Rattle.std.specs.Prelude.{◌≡◌, ℕ, ◌≤◌, ◌<◌, List, [], length, map, string_bytes, IfOk, IfErr, slice_index_or};
 ghost use Rattle.cb_edge.specs.Edge.{StaysSure};
 ghost use Rattle.cb_top.specs.Change.{sources};
-ghost use Rattle.cb_top.specs.Joined.{joined, AreHeld};
 ghost use Rattle.cb_top.specs.Stop.{HasFileCause};
 ghost use Rattle.cb_words.specs.declared.request.Request.TheVariants as request;
-ghost use Rattle.cb_top.specs.Outcome.{answer_of, ill_formed, ill_answer, limit_answer, proof_answer, verdict_answer, place_text, syntax_answer, IsWrongProof, IsWell, SpellsText, IsAnswered, IsJudged, IsReadAndJudged, IsOutcome, read_line};
+ghost use Rattle.cb_top.specs.Outcome.{answer_of, ill_formed, ill_answer, limit_answer, verdict_answer, place_text, IsSyntaxAnswer, IsProofAnswer, IsWell, SpellsText, IsAnswered, IsJudged, IsReadAndJudged, IsOutcome, IsOutcomeOf, read_line};
 
 use crate::MAX_BYTES;
 use crate::code::{code_name, which_word};
@@ -39,8 +38,7 @@ pub(crate) fn answer<F: Files>(
     names: &[String],
     files: &mut F,
 ) -> Result<Outcome, Stop>
-    ensures outcome { IfOk result (λ o. (contents : List (List ℕ)) →
-        AreHeld (F.held files.old) (map string_bytes names.now) contents → IsOutcome request.now (joined contents) (answer_of o)) }
+    ensures outcome { IfOk result (λ o. IsOutcomeOf request.now (map string_bytes names.now) (F.held files.old) (answer_of o)) }
     ensures sure { StaysSure (F.sure files.old) (F.sure files.new) (F.faults files.old) (F.faults files.new) }
     ensures unread { IfErr result (λ stop. HasFileCause (sources F.held F.faults files.old files.new) (map string_bytes names.now) stop) }
 {
@@ -114,7 +112,7 @@ fn judge_with_proofs(
 
 // The outcome of a fault of the syntax.
 fn misread(alloc: Global, fault: SyntaxFault) -> Result<Outcome, AllocError>
-    ensures { IfOk result (λ o. answer_of o ≡ syntax_answer fault) }
+    ensures { IfOk result (λ o. IsSyntaxAnswer fault (answer_of o)) }
 {
     match fault {
         SyntaxFault::Syntax(place) => placed_fault(alloc, b"Syntax ", place),
@@ -230,8 +228,7 @@ fn verdict_outcome(alloc: Global, lines: &[(ObName, Verdict)]) -> Result<Outcome
 
 // The outcome of a proof that is of no obligation, or of one that an earlier proof is of.
 fn proof_fault(alloc: Global, wrong: ProofFault) -> Result<Outcome, AllocError>
-    ensures answer { IfOk result (λ o. answer_of o ≡ proof_answer wrong) }
-    ensures wrong { IfOk result (λ o. IsWrongProof wrong) }
+    ensures { IfOk result (λ o. IsProofAnswer wrong (answer_of o)) }
 {
     match wrong {
         ProofFault::Unknown(name) => fault(alloc, b"UnknownProof ", &key(alloc, &name)?),

@@ -1,16 +1,18 @@
-//! What is promised of the texts that `check` accepts.
+//! What is promised of outcomes and of accepted texts.
 
-ghost use Rattle.cb_top.specs.Safe.{AcceptedIsSafe};
+ghost use Rattle.cb_top.specs.Accepted.{DoneIsAccepted};
+ghost use Rattle.cb_top.specs.Outcome.{OutcomesHaveStatuses};
 
 use cb_check::laws::{derived_is_valid, derives_without_bad};
 use cb_obligations::laws::{obligations_suffice, sound_is_safe};
 use cb_spelled::laws::{spelled_is_written, tokens_are_bytes};
+use cb_text_laws::laws::well_formed_is_typed;
 use cb_typed::laws::{typed_machines_fit, typed_machines_keep_kinds, typed_machines_owe_kinded};
-use cb_typing::laws::well_formed_is_typed;
 
-/// Where a text is accepted, each of its machines keeps its invariant in every list of calls within the preconditions.
-pub fn accepted_is_safe()
-    ensures { AcceptedIsSafe }
+/// A request that takes accepted texts alone ends with status 0 on no other, and each machine of an accepted text keeps its
+/// invariant in every list of calls within the preconditions.
+pub fn done_is_accepted()
+    ensures { DoneIsAccepted }
 {
     derived_is_valid();
     derives_without_bad();
@@ -23,3 +25,8 @@ pub fn accepted_is_safe()
     tokens_are_bytes();
     well_formed_is_typed();
 }
+
+/// The status of each outcome is 0, 1, 2 or 7.
+pub fn outcomes_have_statuses()
+    ensures { OutcomesHaveStatuses }
+{}

@@ -20,7 +20,7 @@ use Rattle.cb_term.specs.Tree.{TermTree, TermTrees, FormulaTree}
 use Rattle.cb_term.specs.Values.{size_of_set}
 use Rattle.cb_seq.specs.Kinds.{kind_in, common_set, bin_kind, neg_kind, card_kind, more_kind, rel_kinds, one_kind, both_kinds, both_fit, kind_of, kind_of_all, fits}
 use Rattle.cb_spec.specs.Domains as domains
-use Rattle.cb_spec.specs.Forms.{Form, Number, Truth, Element, Numbers, TruthSet, Elements, Empty, form_of_domain, hull, joined, is_some_form, single, with_both, left_set, divides, bin_form, neg_form, card_form, may_relate}
+use Rattle.cb_spec.specs.Forms.{Form, Number, Truth, Element, Numbers, TruthSet, Elements, Empty, form_of_domain, hull, joined_form, is_some_form, single, with_both, left_set, divides, bin_form, neg_form, card_form, may_relate}
 use Rattle.cb_spec.specs.TypedTerms.{Scope, form_in, then_form, literal, form_of, form_of_listed, is_membership, TypedTerm, TypedTerms, TypedFormula}
 use Rattle.cb_typed.specs.Erasure.{kind_of_form, kinds_in, kinds_under}
 
@@ -47,7 +47,7 @@ elements_join : (j k : ℕ) (b : Bool) (f c : Form) → kind_of_form f ≡ kind.
 elements_join j k true f c e s = made f c _ e s
 elements_join j k false f c e s = cc
 
-pub joined_kind : (a b c : Form) → joined a b ≡ Some c → common_set (kind_of_form a) (kind_of_form b) ≡ Some (kind_of_form c)
+pub joined_kind : (a b c : Form) → joined_form a b ≡ Some c → common_set (kind_of_form a) (kind_of_form b) ≡ Some (kind_of_form c)
 joined_kind (Numbers lo hi) (Numbers lo' hi') c e = made (hull lo hi lo' hi') c (kind.SetOf base.Integer) (hull_kind lo hi lo' hi') e
 joined_kind TruthSet TruthSet c e = made TruthSet c (kind.SetOf base.Truth) refl e
 joined_kind (Elements j) (Elements k) c e = elements_join j k (j == k) (Elements j) c refl e
@@ -85,7 +85,7 @@ minus_kind l (Elements j) b c e = left_kind (Elements j) b c e
 minus_kind l Empty b c e = left_kind Empty b c e
 minus_kind l a b c e = cc
 
-union_kind : (l : Option ℤ) (a b c : Form) → joined a b ≡ Some c → bin_kind Union (kind_of_form a) (kind_of_form b) ≡ Some (kind_of_form c)
+union_kind : (l : Option ℤ) (a b c : Form) → joined_form a b ≡ Some c → bin_kind Union (kind_of_form a) (kind_of_form b) ≡ Some (kind_of_form c)
 union_kind l a b c e = joined_kind a b c e
 
 pub bin_form_kind : (s : TermSign) (l : Option ℤ) (a b c : Form) → bin_form s l a b ≡ Some c → bin_kind s (kind_of_form a) (kind_of_form b) ≡ Some (kind_of_form c)
@@ -114,18 +114,18 @@ card_form_kind (Elements j) c e = by (j == j) e
 card_form_kind Empty c e = made _ c kind.Integer refl e
 card_form_kind a c e = cc
 
-single_kind : (a b c d : Form) → single a ≡ Some b → joined b c ≡ Some d → more_kind (kind_of_form a) (kind_of_form c) ≡ Some (kind_of_form d)
-single_kind (Number x y) b c d e j = joined_kind (Numbers x y) c d (ap (λ z. joined z c) (same_Some _ _ e) ∙ j)
-single_kind Truth b c d e j = joined_kind TruthSet c d (ap (λ z. joined z c) (same_Some _ _ e) ∙ j)
-single_kind (Element k) b c d e j = joined_kind (Elements k) c d (ap (λ z. joined z c) (same_Some _ _ e) ∙ j)
+single_kind : (a b c d : Form) → single a ≡ Some b → joined_form b c ≡ Some d → more_kind (kind_of_form a) (kind_of_form c) ≡ Some (kind_of_form d)
+single_kind (Number x y) b c d e j = joined_kind (Numbers x y) c d (ap (λ z. joined_form z c) (same_Some _ _ e) ∙ j)
+single_kind Truth b c d e j = joined_kind TruthSet c d (ap (λ z. joined_form z c) (same_Some _ _ e) ∙ j)
+single_kind (Element k) b c d e j = joined_kind (Elements k) c d (ap (λ z. joined_form z c) (same_Some _ _ e) ∙ j)
 single_kind a b c d e j = cc
 
 some_of : (o : Option Form) → is_some_form o ≡ true → (c : Form) × (o ≡ Some c)
 some_of None e = cc
 some_of (Some c) e = (c, refl)
 
-sets_kind : (a b : Form) → is_some_form (joined a b) ≡ true → is_some (common_set (kind_of_form a) (kind_of_form b)) ≡ true
-sets_kind a b e = let c = some_of (joined a b) e in ap is_some (joined_kind a b c.0 c.1)
+sets_kind : (a b : Form) → is_some_form (joined_form a b) ≡ true → is_some (common_set (kind_of_form a) (kind_of_form b)) ≡ true
+sets_kind a b e = let c = some_of (joined_form a b) e in ap is_some (joined_kind a b c.0 c.1)
 
 equal_kinds : (a b : Form) → may_relate Equal a b ≡ true → rel_kinds Equal (kind_of_form a) (kind_of_form b) ≡ true
 equal_kinds (Number x y) (Number z w) e = refl
@@ -158,7 +158,7 @@ related_kinds Member a b e = member_kinds a b e
 related_kinds Subset a b e = sets_kind a b e
 related_kinds s a b e = cc
 
-pub domain_kind : (d : Domain) → kind_of_form (form_of_domain d) ≡ domains.kind_of d
+pub domain_kind : (d : Domain) → kind_of_form (form_of_domain d) ≡ domains.kind_of_domain d
 domain_kind (domain.Range lo hi) = refl
 domain_kind domain.Truth = refl
 domain_kind (domain.Elems set) = refl
@@ -223,7 +223,7 @@ module _ (sizes : List ℕ) (scope : Scope) (taken : List Name) where
         kind_of_all sizes (kinds_in scope) (kinds_under inner) ts ≡ Some (kind_of_form f)
     listed_kind tree.End inner f w e = made Empty f kind.EmptySet refl e
     listed_kind (tree.More t ts) inner f w e =
-        let p = both_forms (then_form (form_of sizes scope inner t) single) (form_of_listed sizes scope inner ts) joined f e in
+        let p = both_forms (then_form (form_of sizes scope inner t) single) (form_of_listed sizes scope inner ts) joined_form f e in
         let q = then_some (form_of sizes scope inner t) single p.0 p.2 in
         two_kinds more_kind _ _ (kind_of_form q.0) (kind_of_form p.1) (kind_of_form f)
         (term_kind t inner false q.0 w.0 q.1) (listed_kind ts inner p.1 w.1 p.3) (single_kind q.0 p.0 p.1 f q.2 p.4)

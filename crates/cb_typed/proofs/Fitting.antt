@@ -28,7 +28,7 @@ use Rattle.cb_spec.specs.declared.system.Machine.{Machine}
 use Rattle.cb_spec.specs.declared.system.Operation.{Operation}
 use Rattle.cb_spec.specs.declared.system.System.{System}
 use Rattle.cb_spec.specs.SubstTree.{SubstTree, Skip, Assign, Together, Choice, If, AnyOf, SubstTrees, End, More}
-use Rattle.cb_spec.specs.Domains.{kind_of, In, HasElements}
+use Rattle.cb_spec.specs.Domains.{kind_of_domain, In, HasElements}
 use Rattle.cb_spec.specs.Stores.{Writes, found, over, empty}
 use Rattle.cb_spec.specs.Bound.{names, result_names, is_among, AreOfKinds, GivesKinds, bind}
 use Rattle.cb_spec.specs.Runs.{Runs, RunsOne}
@@ -57,7 +57,7 @@ use Rattle.cb_typed.proofs.Naming.{Scoped, as_kind, formula_names, formula_plain
 module _ (sizes : List ℕ) where
   -- ---- values of kinds
 
-  of_form_kind : (f : Form) (k : Kind) (v : Value) → is_of_kind f k ≡ true → IsOf sizes (kind_of_form f) v → IsOf sizes k v
+  pub of_form_kind : (f : Form) (k : Kind) (v : Value) → is_of_kind f k ≡ true → IsOf sizes (kind_of_form f) v → IsOf sizes k v
   of_form_kind (Number lo hi) kind.Integer v e i = i
   of_form_kind Truth kind.Truth v e i = i
   of_form_kind (Element j) (kind.Elem k) v e i = subst (λ n. IsOf sizes (kind.Elem n) v) (eqb-true j k e) i
@@ -72,10 +72,10 @@ module _ (sizes : List ℕ) where
   of_form_kind Empty kind.EmptySet v e i = i
   of_form_kind f k v e i = cc
 
-  in_kind : (d : Domain) (v : Value) → In sizes d v → IsOf sizes (kind_of d) v
+  pub in_kind : (d : Domain) (v : Value) → In sizes d v → IsOf sizes (kind_of_domain d) v
   in_kind d v i = ((domain_typing sizes d (λ y. v) (record { text = []; number = 0 })).0 i).0
 
-  gives_set : (scope : Scope) (look : Look) (z : Name) (d : Domain) (v : Value) → Gives sizes look (kinds_in scope) → In sizes d v →
+  pub gives_set : (scope : Scope) (look : Look) (z : Name) (d : Domain) (v : Value) → Gives sizes look (kinds_in scope) → In sizes d v →
       Gives sizes (set_at look z v) (kinds_in ((z, form_of_domain d) ∷ scope))
   gives_set scope look z d v g i x k e = by (same_name x z) e
     where
@@ -85,16 +85,16 @@ module _ (sizes : List ℕ) where
 
   -- ---- what a run writes
 
-  module _ (targets : List (Name × Kind)) (x : Name) (k : Kind) (target : typed.kind_in targets x ≡ Some k) where
+  module _ (targets : List (Name × Kind)) (x : Name) (k : Kind) (target : typed.kind_of_target targets x ≡ Some k) where
     abbrev OfKind : List (Name × Value) → Type 0
     OfKind d = (v : Value) → found d x ≡ Some v → IsOf sizes k v
 
-    write_one : (y : Name) (l : Kind) (u : Value) → typed.kind_in targets y ≡ Some l → IsOf sizes l u → OfKind ((y, u) ∷ [])
+    write_one : (y : Name) (l : Kind) (u : Value) → typed.kind_of_target targets y ≡ Some l → IsOf sizes l u → OfKind ((y, u) ∷ [])
     write_one y l u e i v h = by (same_name x y) refl h
       where
         by : (b : Bool) → same_name x y ≡ b → (if b then Some u else None) ≡ Some v → IsOf sizes k v
         by true s h =
-            let l_is : l ≡ k = same_Some l k (sym e ∙ ap (typed.kind_in targets) (sym (same_name_tells x y s)) ∙ target) in
+            let l_is : l ≡ k = same_Some l k (sym e ∙ ap (typed.kind_of_target targets) (sym (same_name_tells x y s)) ∙ target) in
             subst (IsOf sizes k) (same_Some u v h) (subst (λ j. IsOf sizes j u) l_is i)
         by false s h = cc
 
@@ -112,7 +112,7 @@ module _ (sizes : List ℕ) where
           Gives sizes look (kinds_in scope) → Runs sizes s look d → OfKind d
       run_kinds Skip scope taken look d w g r = λ v h. let e : found [] x ≡ Some v = subst (λ z. found z x ≡ Some v) r h in cc
       run_kinds (Assign y t) scope taken look d w g r =
-          let p = some_and (typed.kind_in targets y) _ w in
+          let p = some_and (typed.kind_of_target targets y) _ w in
           let f = as_kind sizes scope taken p.0 t p.2 in
           let value = meets_gives sizes look t [] r.0 (IsOf sizes (kind_of_form f.0)) (of_stable sizes (kind_of_form f.0) r.0) r.1.0 (kind_sound sizes look (kinds_in scope) g t [] [] (kind_of_form f.0) f.1 tt) in
           let q = some_and _ _ p.2.1 in
@@ -136,15 +136,15 @@ module _ (sizes : List ℕ) where
   kind_of_declared [] x k e = cc
   kind_of_declared (d ∷ ds) x k e = by (same_name x d.name) e (kind_of_declared ds x k)
     where
-      by : (b : Bool) → (if b then Some (kind_of d.domain) else kind_in (with_kinds ds) x) ≡ Some k → (kind_in (with_kinds ds) x ≡ Some k → is_among x (names ds) ≡ true) → (b || is_among x (names ds)) ≡ true
+      by : (b : Bool) → (if b then Some (kind_of_domain d.domain) else kind_in (with_kinds ds) x) ≡ Some k → (kind_in (with_kinds ds) x ≡ Some k → is_among x (names ds) ≡ true) → (b || is_among x (names ds)) ≡ true
       by true e r = refl
       by false e r = r e
 
-  each_kind : (ds : List Declared) (look : Look) → Differ (names ds) → Gives sizes look (with_kinds ds) → GivesKinds sizes ds look
+  pub each_kind : (ds : List Declared) (look : Look) → Differ (names ds) → Gives sizes look (with_kinds ds) → GivesKinds sizes ds look
   each_kind [] look n g = tt
   each_kind (d ∷ ds) look n g = (
-    g d.name (kind_of d.domain) (ap (λ b. if b then Some (kind_of d.domain) else kind_in (with_kinds ds) d.name) (same_name_self d.name)),
-    each_kind ds look n.1 (λ x k e. g x k (ap (λ b. if b then Some (kind_of d.domain) else kind_in (with_kinds ds) x) (apart x (kind_of_declared ds x k e)) ∙ e)),
+    g d.name (kind_of_domain d.domain) (ap (λ b. if b then Some (kind_of_domain d.domain) else kind_in (with_kinds ds) d.name) (same_name_self d.name)),
+    each_kind ds look n.1 (λ x k e. g x k (ap (λ b. if b then Some (kind_of_domain d.domain) else kind_in (with_kinds ds) x) (apart x (kind_of_declared ds x k e)) ∙ e)),
   )
     where
       apart : (x : Name) → is_among x (names ds) ≡ true → same_name x d.name ≡ false
@@ -157,13 +157,13 @@ module _ (sizes : List ℕ) where
   -- the scope of declared names tells their kinds
   pub scope_kinds : (ds : List Declared) → kinds_in (scope_of ds) ≡ with_kinds ds
   scope_kinds [] = refl
-  scope_kinds (d ∷ ds) = ap (λ k. (d.name, k) ∷ kinds_in (scope_of ds)) (domain_kind d.domain) ∙ ap (λ z. (d.name, kind_of d.domain) ∷ z) (scope_kinds ds)
+  scope_kinds (d ∷ ds) = ap (λ k. (d.name, k) ∷ kinds_in (scope_of ds)) (domain_kind d.domain) ∙ ap (λ z. (d.name, kind_of_domain d.domain) ∷ z) (scope_kinds ds)
 
-  pub targets_kind : (ds : List Declared) (x : Name) → typed.kind_in (targets_of ds) x ≡ kind_in (with_kinds ds) x
+  pub targets_kind : (ds : List Declared) (x : Name) → typed.kind_of_target (targets_of ds) x ≡ kind_in (with_kinds ds) x
   targets_kind [] x = refl
-  targets_kind (d ∷ ds) x = ap (λ o. if same_name x d.name then Some (kind_of d.domain) else o) (targets_kind ds x)
+  targets_kind (d ∷ ds) x = ap (λ o. if same_name x d.name then Some (kind_of_domain d.domain) else o) (targets_kind ds x)
 
-  declared_in : (ds : List Declared) (x : Name) (f : Form) → form_in (scope_of ds) x ≡ Some f → is_among x (names ds) ≡ true
+  pub declared_in : (ds : List Declared) (x : Name) (f : Form) → form_in (scope_of ds) x ≡ Some f → is_among x (names ds) ≡ true
   declared_in [] x f e = cc
   declared_in (d ∷ ds) x f e = by (same_name x d.name) e (declared_in ds x f)
     where
@@ -171,7 +171,7 @@ module _ (sizes : List ℕ) where
       by true e r = refl
       by false e r = r e
 
-  form_both : (s t : Scope) (x : Name) (f : Form) (C : Type 0) → form_in (s ++ t) x ≡ Some f → (form_in s x ≡ Some f → C) → (form_in t x ≡ Some f → C) → C
+  pub form_both : (s t : Scope) (x : Name) (f : Form) (C : Type 0) → form_in (s ++ t) x ≡ Some f → (form_in s x ≡ Some f → C) → (form_in t x ≡ Some f → C) → C
   form_both [] t x f C e p q = q e
   form_both (c ∷ s) t x f C e p q = by (same_name x c.0) e p (λ e' p'. form_both s t x f C e' p' q)
     where
@@ -181,7 +181,7 @@ module _ (sizes : List ℕ) where
       by false e p r = r e p
 
   -- parameters and variables with values of their kinds
-  gives_both : (ps vs : Scope) (d : List (Name × Value)) (look : Look) → Gives sizes (over d look) (kinds_in ps) → Gives sizes look (kinds_in vs) →
+  pub gives_both : (ps vs : Scope) (d : List (Name × Value)) (look : Look) → Gives sizes (over d look) (kinds_in ps) → Gives sizes look (kinds_in vs) →
       ((x : Name) (k : Kind) → kind_in (kinds_in ps) x ≡ None → kind_in (kinds_in vs) x ≡ Some k → over d look x ≡ look x) → Gives sizes (over d look) (kinds_in (ps ++ vs))
   gives_both ps vs d look g h same x k e = by (kind_in (kinds_in ps) x) refl
     where
@@ -207,18 +207,18 @@ module _ (sizes : List ℕ) where
       by None n = let e' = sym (tail ps n) ∙ e in subst (IsOf sizes k) (sym (same x k n e')) (h x k e')
       by (Some l) n = g x k (n ∙ sym (head ps l n) ∙ e)
 
-  args_give : (ds : List Declared) (vs : List Value) (look : Look) → Differ (names ds) → AreOfKinds sizes ds vs → Gives sizes (over (bind (names ds) vs) look) (with_kinds ds)
+  pub args_give : (ds : List Declared) (vs : List Value) (look : Look) → Differ (names ds) → AreOfKinds sizes ds vs → Gives sizes (over (bind (names ds) vs) look) (with_kinds ds)
   args_give [] [] look n a x k e = cc
   args_give [] (v ∷ vs) look n a x k e = absurd a
   args_give (d ∷ ds) [] look n a x k e = absurd a
   args_give (d ∷ ds) (v ∷ vs) look n a x k e = by (same_name x d.name) e (args_give ds vs look n.1 a.1 x k)
     where
-      by : (b : Bool) → (if b then Some (kind_of d.domain) else kind_in (with_kinds ds) x) ≡ Some k → (kind_in (with_kinds ds) x ≡ Some k → IsOf sizes k (over (bind (names ds) vs) look x)) →
+      by : (b : Bool) → (if b then Some (kind_of_domain d.domain) else kind_in (with_kinds ds) x) ≡ Some k → (kind_in (with_kinds ds) x ≡ Some k → IsOf sizes k (over (bind (names ds) vs) look x)) →
           IsOf sizes k (if b then v else over (bind (names ds) vs) look x)
       by true e r = subst (λ j. IsOf sizes j v) (same_Some _ _ e) a.0
       by false e r = r e
 
-  args_stay : (ds : List Declared) (vs : List Value) (look : Look) (x : Name) → is_among x (names ds) ≡ false → over (bind (names ds) vs) look x ≡ look x
+  pub args_stay : (ds : List Declared) (vs : List Value) (look : Look) (x : Name) → is_among x (names ds) ≡ false → over (bind (names ds) vs) look x ≡ look x
   args_stay [] vs look x e = refl
   args_stay (d ∷ ds) [] look x e = by (same_name x d.name) e (args_stay ds [] look x)
     where
@@ -248,7 +248,7 @@ module _ (sizes : List ℕ) where
       let v = element d.domain g.0.0 in (
         set_at r.0 d.name v.0,
         (
-          subst (IsOf sizes (kind_of d.domain)) (sym (set_here r.0 d.name v.0)) (in_kind d.domain v.0 v.1),
+          subst (IsOf sizes (kind_of_domain d.domain)) (sym (set_here r.0 d.name v.0)) (in_kind d.domain v.0 v.1),
           each_kind ds (set_at r.0 d.name v.0) n.1 (λ x k e. subst (IsOf sizes k) (sym (set_other r.0 d.name v.0 x (apart x k e))) (gives_kinds sizes ds r.0 r.1 x k e)),
         ),
         (λ x e. let p = neither (same_name x d.name) (is_among x (names ds)) e in set_other r.0 d.name v.0 x p.0 ∙ r.2 x p.1),
@@ -261,7 +261,7 @@ module _ (sizes : List ℕ) where
           by true s = absurd (true≢false (sym (kind_of_declared ds x k e) ∙ ap (λ z. is_among z (names ds)) (same_name_tells x d.name s) ∙ n.0))
           by false s = refl
 
-declared_at : (ds : List Declared) (x : Name) → is_among x (names ds) ≡ true → (d : Declared) × Contains ds d × (x ≡ d.name)
+pub declared_at : (ds : List Declared) (x : Name) → is_among x (names ds) ≡ true → (d : Declared) × Contains ds d × (x ≡ d.name)
 declared_at [] x e = cc
 declared_at (d ∷ ds) x e = by (same_name x d.name) refl e (declared_at ds x)
   where
@@ -271,51 +271,51 @@ declared_at (d ∷ ds) x e = by (same_name x d.name) refl e (declared_at ds x)
     by false s e r = let q = r e in (q.0, (suc q.1.0, omega (arith, q.1.1), q.1.2), q.2)
 
 -- results stand before the variables
-pub result_target : (rs ts : List (Name × Kind)) (x : Name) (k : Kind) (C : Type 0) → typed.kind_in (rs ++ ts) x ≡ Some k →
-    (is_among x (result_names rs) ≡ true → C) → (typed.kind_in ts x ≡ Some k → C) → C
+pub result_target : (rs ts : List (Name × Kind)) (x : Name) (k : Kind) (C : Type 0) → typed.kind_of_target (rs ++ ts) x ≡ Some k →
+    (is_among x (result_names rs) ≡ true → C) → (typed.kind_of_target ts x ≡ Some k → C) → C
 result_target [] ts x k C e p q = q e
 result_target (r ∷ rs) ts x k C e p q = by (same_name x r.0) e p (λ e' p'. result_target rs ts x k C e' p' q)
   where
-    by : (b : Bool) → (if b then Some r.1 else typed.kind_in (rs ++ ts) x) ≡ Some k → ((b || is_among x (result_names rs)) ≡ true → C) →
-        (typed.kind_in (rs ++ ts) x ≡ Some k → (is_among x (result_names rs) ≡ true → C) → C) → C
+    by : (b : Bool) → (if b then Some r.1 else typed.kind_of_target (rs ++ ts) x) ≡ Some k → ((b || is_among x (result_names rs)) ≡ true → C) →
+        (typed.kind_of_target (rs ++ ts) x ≡ Some k → (is_among x (result_names rs) ≡ true → C) → C) → C
     by true e p r = p refl
     by false e p r = r e p
 
-no_result : (rs ts : List (Name × Kind)) (x : Name) → is_among x (result_names rs) ≡ false → typed.kind_in (rs ++ ts) x ≡ typed.kind_in ts x
+pub no_result : (rs ts : List (Name × Kind)) (x : Name) → is_among x (result_names rs) ≡ false → typed.kind_of_target (rs ++ ts) x ≡ typed.kind_of_target ts x
 no_result [] ts x e = refl
 no_result (r ∷ rs) ts x e =
     let n = neither (same_name x r.0) (is_among x (result_names rs)) e in
-    ap (λ b. if b then Some r.1 else typed.kind_in (rs ++ ts) x) n.0 ∙ no_result rs ts x n.1
+    ap (λ b. if b then Some r.1 else typed.kind_of_target (rs ++ ts) x) n.0 ∙ no_result rs ts x n.1
 
 -- ---- the machines of a typed system
 
 module _ (y : System) (t : Typed y) (k : ℕ) (m : Machine) (at : IsAt y.machines k m) where
-  abbrev sizes : List ℕ
+  abbrev pub sizes : List ℕ
   sizes = set_sizes y
 
   pub typed_machine : TypedMachine y m
   typed_machine = t.machines k m at
 
   -- the global names that are declared before the variables, the variables, and those after
-  abbrev before : List Name
+  abbrev pub before : List Name
   before = map (λ (s : SetNames). s.name) y.sets.sets.items ++ flat_map (λ (s : SetNames). s.elements) y.sets.sets.items
       ++ map (λ (c : Name × ℤ). c.0) y.constants ++ map (λ (m : Machine). m.name) y.machines
 
-  abbrev of_variables : List Name
+  abbrev pub of_variables : List Name
   of_variables = flat_map (λ (m : Machine). names m.variables) y.machines
 
-  abbrev of_channels : List Name
+  abbrev pub of_channels : List Name
   of_channels = map (λ (c : Channel). c.name) y.channels
 
-  abbrev of_controllers : List Name
+  abbrev pub of_controllers : List Name
   of_controllers = map (λ (c : Controller). c.name) y.controllers
 
-  all_names : global_names y ≡ before ++ of_variables ++ of_channels ++ of_controllers
+  pub all_names : global_names y ≡ before ++ of_variables ++ of_channels ++ of_controllers
   all_names = refl
 
-  new_variables : (taken : List Name) × AreNew taken (names m.variables)
+  pub new_variables : (taken : List Name) × AreNew taken (names m.variables)
   new_variables =
-      let n : AreNew [] (before ++ of_variables ++ of_channels ++ of_controllers) = subst (AreNew []) all_names t.global_names in
+      let n : AreNew [] (before ++ of_variables ++ of_channels ++ of_controllers) = subst (AreNew []) all_names t.names_differ in
       let a = new_front [] (before ++ of_variables) of_channels (new_front [] (before ++ of_variables ++ of_channels) of_controllers n) in
       let b = new_back [] before of_variables a in
       new_at (λ (m : Machine). names m.variables) y.machines b.0 b.1 k m at
@@ -338,17 +338,17 @@ module _ (y : System) (t : Typed y) (k : ℕ) (m : Machine) (at : IsAt y.machine
     variables_up ds (λ x e. h x (or_right (same_name x d.name) (is_among x (names ds)) e)),
   )
 
-  scope_written : Scoped IsWritten (scope_of m.variables)
+  pub scope_written : Scoped IsWritten (scope_of m.variables)
   scope_written x f e = variable_written x (declared_in sizes m.variables x f e)
 
-  target_written : (x : Name) (l : Kind) → typed.kind_in (targets_of m.variables) x ≡ Some l → IsWritten x
+  pub target_written : (x : Name) (l : Kind) → typed.kind_of_target (targets_of m.variables) x ≡ Some l → IsWritten x
   target_written x l e = variable_written x (kind_of_declared sizes m.variables x l (sym (targets_kind sizes m.variables x) ∙ e))
 
   module _ (j : ℕ) (o : Operation) (of : TypedOperation y m o) where
     pub new_params : AreNew (global_names y) (names o.params)
     new_params = new_front (global_names y) (names o.params) (result_names o.results) of.new_names
 
-    new_results : (taken : List Name) × AreNew taken (result_names o.results)
+    pub new_results : (taken : List Name) × AreNew taken (result_names o.results)
     new_results = new_back (global_names y) (names o.params) (result_names o.results) of.new_names
 
     pub no_param : (x : Name) → IsVariable m x → is_among x (names o.params) ≡ false
@@ -361,11 +361,11 @@ module _ (y : System) (t : Typed y) (k : ℕ) (m : Machine) (at : IsAt y.machine
         split [] e = e
         split (p ∷ ps) e = split ps (neither (same_name x p) (is_among x (ps ++ result_names o.results)) e).1
 
-    inside_written : Scoped IsWritten (scope_in m o)
+    pub inside_written : Scoped IsWritten (scope_in m o)
     inside_written x f e = form_both sizes (scope_of o.params) (scope_of m.variables) x f (IsWritten x) e
         (λ p. new_written (global_names y) (names o.params) new_params x (declared_in sizes o.params x f p)) (λ v. scope_written x f v)
 
-    targets_written : (x : Name) (l : Kind) → typed.kind_in (o.results ++ targets_of m.variables) x ≡ Some l → IsWritten x
+    targets_written : (x : Name) (l : Kind) → typed.kind_of_target (o.results ++ targets_of m.variables) x ≡ Some l → IsWritten x
     targets_written x l e = result_target o.results (targets_of m.variables) x l (IsWritten x) e
         (λ r. new_written new_results.0 (result_names o.results) new_results.1 x r) (λ v. target_written x l v)
 
@@ -373,7 +373,7 @@ module _ (y : System) (t : Typed y) (k : ℕ) (m : Machine) (at : IsAt y.machine
     operation_fits = record {
       pre_plain = formula_plain sizes (scope_in m o) (names o.params ++ result_names o.results ++ global_names y) inside_written o.pre of.precondition;
       body_written = subst_written sizes (o.results ++ targets_of m.variables) targets_written o.body (scope_in m o) (names o.params ++ result_names o.results ++ global_names y) inside_written of.body;
-      body_fits = of.fits;
+      body_fits = of.body_fits;
       params_differ = new_differ (global_names y) (names o.params) new_params;
       apart = no_param;
     }

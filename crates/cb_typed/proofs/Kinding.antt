@@ -21,7 +21,7 @@ use Rattle.cb_spec.specs.TypedSubsts.{TypedSubst, TypedSides}
 use Rattle.cb_spec.specs.TypedSubsts as typed
 use Rattle.cb_obligations.specs.Written.{IsWritten}
 use Rattle.cb_obligations.specs.Branches as made
-use Rattle.cb_obligations.specs.Branches.{Item, Bind, Guard, Assigned, Branch, numbered, opened_name, opened_names, opened_term, opened, binds, guarded, joined, branches_from, branches_of_each, branches}
+use Rattle.cb_obligations.specs.Branches.{Item, Bind, Guard, Assigned, Branch, numbered, opened_name, opened_names, opened_term, opened, binds, guarded, joined_branch, branches_from, branches_of_each, branches}
 use Rattle.cb_obligations.specs.Transform.{as_bound, closed_over, assigned, branch_formula, and_branches, all_branches, is_choice, live_under, live_each}
 use Rattle.cb_obligations.specs.Laws.{NamesUpTo}
 use Rattle.cb_obligations.proofs.Runs.{EachOf, each_append, each_map, each_flat_map, each_step, Numbered, numbered_append}
@@ -227,13 +227,13 @@ module _ (sizes : List ℕ) where
     abbrev Fine : ℕ → Names → Branch → Type 0
     Fine k ms b = Numbered k b.items × ItemsFit ms b.items b.writes
 
-    module _ (targets : Names) (agree : (x : Name) (k c : Kind) → typed.kind_in targets x ≡ Some k → kind_in ns x ≡ Some c → k ≡ c) where
+    module _ (targets : Names) (agree : (x : Name) (k c : Kind) → typed.kind_of_target targets x ≡ Some k → kind_in ns x ≡ Some c → k ≡ c) where
       mutual
         pub branches_fit : (s : SubstTree) (k : ℕ) (scope : List Name) (inner : Scope) (taken : List Name) (ms : Names) → TypedSubst sizes targets inner taken s →
             Opens ms scope inner → NamesUpTo k ms → EachOf (Fine k ms) (branches_from k scope s)
         branches_fit Skip k scope inner taken ms w o u = ((tt, tt), tt)
         branches_fit (Assign x e) k scope inner taken ms w o u =
-            let p = some_and (typed.kind_in targets x) _ w in
+            let p = some_and (typed.kind_of_target targets x) _ w in
             let f = as_kind sizes inner taken p.0 e p.2 in
             let q = some_and _ _ p.2.1 in
             let same : q.0 ≡ f.0 = same_Some q.0 f.0 (sym q.1 ∙ f.2) in
@@ -241,10 +241,10 @@ module _ (sizes : List ℕ) where
             let made = opened_kind ms scope inner o e (kind_of_form f.0) f.1 in
             ((tt, ((λ c h. subst (IsBelow (kind_of sizes ms [] (opened_term scope e))) (agree x p.0 c p.1 h) (below_then _ (kind_of_form f.0) p.0 made below)), tt)), tt)
         branches_fit (Together a b) k scope inner taken ms w o u =
-            (each_flat_map (Fine k ms) (λ p. map (joined p) (branches_from (k + binds p.items) scope b)) (branches_from k scope a)).1
-            (each_step (Fine k ms) (λ p. EachOf (Fine k ms) (map (joined p) (branches_from (k + binds p.items) scope b))) (branches_from k scope a) (branches_fit a k scope inner taken ms w.0 o u)
-            (λ p g. (each_map (Fine k ms) (joined p) (branches_from (k + binds p.items) scope b)).1
-            (each_step (Fine (k + binds p.items) (added ms p.items)) (λ q. Fine k ms (joined p q)) (branches_from (k + binds p.items) scope b)
+            (each_flat_map (Fine k ms) (λ p. map (joined_branch p) (branches_from (k + binds p.items) scope b)) (branches_from k scope a)).1
+            (each_step (Fine k ms) (λ p. EachOf (Fine k ms) (map (joined_branch p) (branches_from (k + binds p.items) scope b))) (branches_from k scope a) (branches_fit a k scope inner taken ms w.0 o u)
+            (λ p g. (each_map (Fine k ms) (joined_branch p) (branches_from (k + binds p.items) scope b)).1
+            (each_step (Fine (k + binds p.items) (added ms p.items)) (λ q. Fine k ms (joined_branch p q)) (branches_from (k + binds p.items) scope b)
             (branches_fit b (k + binds p.items) scope inner taken (added ms p.items) w.1 (λ y c e. wider_added k ms p.items u g.0 (opened_name scope y) c (o y c e)) (up_added k ms p.items u g.0))
             (λ q h. (numbered_append k p.items q.items g.0 h.0, items_joined k ms p.items q.items p.writes q.writes u g.0 h.0 g.1 h.1)))))
         branches_fit (Choice ss) k scope inner taken ms w o u = sides_fit ss k scope inner taken ms w o u
@@ -258,13 +258,13 @@ module _ (sizes : List ℕ) where
             )
         branches_fit (AnyOf z d p s) k scope inner taken ms w o u =
             let x = numbered z (k + 1) in
-            let c = domains.kind_of d in
+            let c = domains.kind_of_domain d in
             let ms' = (x, c) ∷ ms in
             let inner' = (z, form_of_domain d) ∷ inner in
             let o' = opens_bound k ms scope inner z (form_of_domain d) c w.0.0 (domain_kind d) u o in
             let g = opened_fits ms' (x ∷ scope) inner' o' p (formula_fits sizes inner' (z ∷ taken) p [] w.3) in
-            (each_map (Fine k ms) (made.bound x c (opened (x ∷ scope) p)) (branches_from (k + 1) (x ∷ scope) s)).1
-            (each_step (Fine (k + 1) ms') (λ q. Fine k ms (made.bound x c (opened (x ∷ scope) p) q)) (branches_from (k + 1) (x ∷ scope) s)
+            (each_map (Fine k ms) (made.bound_branch x c (opened (x ∷ scope) p)) (branches_from (k + 1) (x ∷ scope) s)).1
+            (each_step (Fine (k + 1) ms') (λ q. Fine k ms (made.bound_branch x c (opened (x ∷ scope) p) q)) (branches_from (k + 1) (x ∷ scope) s)
             (branches_fit s (k + 1) (x ∷ scope) inner' (z ∷ taken) ms' w.4 o' (up_one k ms x c u refl)) (λ q h. ((refl, h.0), (g, h.1))))
 
         pub sides_fit : (ss : SubstTrees) (k : ℕ) (scope : List Name) (inner : Scope) (taken : List Name) (ms : Names) → TypedSides sizes targets inner taken ss →
@@ -298,7 +298,7 @@ module _ (sizes : List ℕ) where
           let g = closed_fits ns bs p (subst (λ ms. fits sizes ms [] p ≡ true) e (formula_fits sizes inner taken p [] w.0)) in
           and_from _ _ (and_from _ _ g (live_fits targets a bs inner taken w.1 e)) (and_from _ _ g (live_fits targets b bs inner taken w.2 e))
       live_fits targets (AnyOf z d p s) bs inner taken w e =
-          let c = domains.kind_of d in
+          let c = domains.kind_of_domain d in
           let bs' = (z, c) ∷ bs in
           let e' : kinds_in ((z, form_of_domain d) ∷ inner) ≡ bs' ++ ns = ap₂ (λ k ms. (z, k) ∷ ms) (domain_kind d) e in
           let g = closed_fits ns bs' p (subst (λ ms. fits sizes ms [] p ≡ true) e' (formula_fits sizes ((z, form_of_domain d) ∷ inner) (z ∷ taken) p [] w.3)) in
@@ -307,4 +307,5 @@ module _ (sizes : List ℕ) where
       pub live_each_fits : (targets : Names) (ss : SubstTrees) (bs : Names) (inner : Scope) (taken : List Name) → TypedSides sizes targets inner taken ss → kinds_in inner ≡ bs ++ ns →
           fits sizes ns (just_kinds bs) (live_each (just_names bs) ss) ≡ true
       live_each_fits targets End bs inner taken w e = refl
-      live_each_fits targets (More s ss) bs inner taken w e = and_from _ _ (live_fits targets s bs inner taken w.0 e) (live_each_fits targets ss bs inner taken w.1 e)
+      live_each_fits targets (More s End) bs inner taken w e = live_fits targets s bs inner taken w.0 e
+      live_each_fits targets (More s (More t ss)) bs inner taken w e = and_from _ _ (live_fits targets s bs inner taken w.0 e) (live_each_fits targets (More t ss) bs inner taken w.1 e)

@@ -70,14 +70,14 @@ form_none (p ∷ scope) x e = by (same_name x p.0) e (form_none scope x)
     by true e r = cc
     by false e r = r e
 
-known : (These : Name → Type 0) (scope : Scope) → Scoped These scope → (y : Name) → (form_in scope y ≡ None → ⊥) → These y
+pub known : (These : Name → Type 0) (scope : Scope) → Scoped These scope → (y : Name) → (form_in scope y ≡ None → ⊥) → These y
 known These scope s y n = by (form_in scope y) refl
   where
     by : (o : Option Form) → form_in scope y ≡ o → These y
     by None e = absurd (n e)
     by (Some f) e = s y f e
 
-scope_more : (These : Name → Type 0) (scope : Scope) (x : Name) (g : Form) → Scoped These scope → These x → Scoped These ((x, g) ∷ scope)
+pub scope_more : (These : Name → Type 0) (scope : Scope) (x : Name) (g : Form) → Scoped These scope → These x → Scoped These ((x, g) ∷ scope)
 scope_more These scope x g s h y f e = by (same_name y x) refl e
   where
     by : (b : Bool) → same_name y x ≡ b → (if b then Some g else form_in scope y) ≡ Some f → These y
@@ -108,10 +108,10 @@ module _ (sizes : List ℕ) (scope : Scope) (taken : List Name) where
 
 module _ (sizes : List ℕ) (targets : List (Name × Kind)) where
   mutual
-    pub subst_written : ((y : Name) (k : Kind) → typed.kind_in targets y ≡ Some k → IsWritten y) → (s : SubstTree) (scope : Scope) (taken : List Name) →
+    pub subst_written : ((y : Name) (k : Kind) → typed.kind_of_target targets y ≡ Some k → IsWritten y) → (s : SubstTree) (scope : Scope) (taken : List Name) →
         Scoped IsWritten scope → TypedSubst sizes targets scope taken s → AsWritten s
     subst_written tw Skip scope taken sw w = tt
-    subst_written tw (Assign x e) scope taken sw w = let p = some_and (typed.kind_in targets x) _ w in (tw x p.0 p.1, term_plain sizes scope taken sw p.0 e p.2)
+    subst_written tw (Assign x e) scope taken sw w = let p = some_and (typed.kind_of_target targets x) _ w in (tw x p.0 p.1, term_plain sizes scope taken sw p.0 e p.2)
     subst_written tw (Together a b) scope taken sw w = (subst_written tw a scope taken sw w.0, subst_written tw b scope taken sw w.1)
     subst_written tw (Choice ss) scope taken sw w = sides_written tw ss scope taken sw w
     subst_written tw (If p a b) scope taken sw w = (formula_plain sizes scope taken sw p w.0, (subst_written tw a scope taken sw w.1, subst_written tw b scope taken sw w.2))
@@ -119,7 +119,7 @@ module _ (sizes : List ℕ) (targets : List (Name × Kind)) where
         let more = scope_more IsWritten scope z (form_of_domain d) sw w.0.0 in
         (w.0.0, (formula_plain sizes ((z, form_of_domain d) ∷ scope) (z ∷ taken) more p w.3, subst_written tw s ((z, form_of_domain d) ∷ scope) (z ∷ taken) more w.4))
 
-    pub sides_written : ((y : Name) (k : Kind) → typed.kind_in targets y ≡ Some k → IsWritten y) → (ss : SubstTrees) (scope : Scope) (taken : List Name) →
+    pub sides_written : ((y : Name) (k : Kind) → typed.kind_of_target targets y ≡ Some k → IsWritten y) → (ss : SubstTrees) (scope : Scope) (taken : List Name) →
         Scoped IsWritten scope → TypedSides sizes targets scope taken ss → AsWrittenEach ss
     sides_written tw End scope taken sw w = tt
     sides_written tw (More s ss) scope taken sw w = (subst_written tw s scope taken sw w.0, sides_written tw ss scope taken sw w.1)
@@ -141,7 +141,7 @@ module _ (sizes : List ℕ) (targets : List (Name × Kind)) where
       pub reads_known : (s : SubstTree) (scope : Scope) (taken : List Name) → TypedSubst sizes targets scope taken s → form_in scope x ≡ None → reads x s ≡ true → ⊥
       reads_known Skip scope taken w n e = cc
       reads_known (Assign y t) scope taken w n e =
-          let p = some_and (typed.kind_in targets y) _ w in
+          let p = some_and (typed.kind_of_target targets y) _ w in
           let k = as_kind sizes scope taken p.0 t p.2 in
           kind_not_free sizes (kinds_in scope) x (form_none scope x n) t [] (kind_of_form k.0) k.1 e
       reads_known (Together a b) scope taken w n e = one_of (reads x a) (reads x b) e (reads_known a scope taken w.0 n) (reads_known b scope taken w.1 n)

@@ -147,25 +147,25 @@ module _ (sizes : List ℕ) where
 
   abbrev pushed : List Declared → Names → Names
   pushed [] bs = bs
-  pushed (d ∷ ds) bs = pushed ds ((d.name, domains.kind_of d.domain) ∷ bs)
+  pushed (d ∷ ds) bs = pushed ds ((d.name, domains.kind_of_domain d.domain) ∷ bs)
 
   for_all_fits : (ns : Names) (ds : List Declared) (bs : Names) (f : FormulaTree) → fits sizes (pushed ds bs ++ ns) [] f ≡ true → fits sizes ns (just_kinds bs) (for_all (just_names bs) ds f) ≡ true
   for_all_fits ns [] bs f e = closed_fits sizes ns bs f e
-  for_all_fits ns (d ∷ ds) bs f e = for_all_fits ns ds ((d.name, domains.kind_of d.domain) ∷ bs) f e
+  for_all_fits ns (d ∷ ds) bs f e = for_all_fits ns ds ((d.name, domains.kind_of_domain d.domain) ∷ bs) f e
 
   not_pushed : (ns : Names) (ds : List Declared) (bs : Names) (y : Name) → is_among y (names ds) ≡ false → kind_in (pushed ds bs ++ ns) y ≡ kind_in (bs ++ ns) y
   not_pushed ns [] bs y e = refl
   not_pushed ns (d ∷ ds) bs y e =
       let n = neither (same_name y d.name) (is_among y (names ds)) e in
-      not_pushed ns ds ((d.name, domains.kind_of d.domain) ∷ bs) y n.1 ∙ ap (λ b. if b then Some (domains.kind_of d.domain) else kind_in (bs ++ ns) y) n.0
+      not_pushed ns ds ((d.name, domains.kind_of_domain d.domain) ∷ bs) y n.1 ∙ ap (λ b. if b then Some (domains.kind_of_domain d.domain) else kind_in (bs ++ ns) y) n.0
 
   pushed_wider : (ns : Names) (ds : List Declared) (bs : Names) → Differ (names ds) → (y : Name) (c : Kind) → kind_in (with_kinds ds ++ ns) y ≡ Some c →
       (kind_in ns y ≡ Some c → is_among y (names ds) ≡ false → kind_in (bs ++ ns) y ≡ Some c) → kind_in (pushed ds bs ++ ns) y ≡ Some c
   pushed_wider ns [] bs n y c e q = q e refl
-  pushed_wider ns (d ∷ ds) bs n y c e q = by (same_name y d.name) refl e q (pushed_wider ns ds ((d.name, domains.kind_of d.domain) ∷ bs) n.1 y c)
+  pushed_wider ns (d ∷ ds) bs n y c e q = by (same_name y d.name) refl e q (pushed_wider ns ds ((d.name, domains.kind_of_domain d.domain) ∷ bs) n.1 y c)
     where
       k : Kind
-      k = domains.kind_of d.domain
+      k = domains.kind_of_domain d.domain
 
       by : (b : Bool) → same_name y d.name ≡ b → (if b then Some k else kind_in (with_kinds ds ++ ns) y) ≡ Some c →
           (kind_in ns y ≡ Some c → (b || is_among y (names ds)) ≡ false → kind_in (bs ++ ns) y ≡ Some c) →
@@ -217,7 +217,7 @@ module _ (y : System) (t : Typed y) (k : ℕ) (m : Machine) (at : IsAt y.machine
       none [] x e = refl
       none (d ∷ ds) x e =
           let n = neither (same_name x d.name) (is_among x (names ds)) e in
-          ap (λ b. if b then Some (domains.kind_of d.domain) else kind_in (with_kinds ds) x) n.0 ∙ none ds x n.1
+          ap (λ b. if b then Some (domains.kind_of_domain d.domain) else kind_in (with_kinds ds) x) n.0 ∙ none ds x n.1
 
       by : (ds : List Declared) → Differ (names ds) → AreDifferent (with_kinds ds)
       by [] n = tt
@@ -260,7 +260,7 @@ module _ (y : System) (t : Typed y) (k : ℕ) (m : Machine) (at : IsAt y.machine
     no_param_kind [] x e = refl
     no_param_kind (d ∷ ds) x e =
         let n = neither (same_name x d.name) (is_among x (names ds)) e in
-        ap (λ b. if b then Some (domains.kind_of d.domain) else kind_in (with_kinds ds ++ vs) x) n.0 ∙ no_param_kind ds x n.1
+        ap (λ b. if b then Some (domains.kind_of_domain d.domain) else kind_in (with_kinds ds ++ vs) x) n.0 ∙ no_param_kind ds x n.1
 
     inner_written : NamesUpTo 0 (ps ++ vs)
     inner_written = by o.params (λ x e. new_written (global_names y) (names o.params) (fitting.new_params y t k m at 0 o of) x e)
@@ -279,7 +279,7 @@ module _ (y : System) (t : Typed y) (k : ℕ) (m : Machine) (at : IsAt y.machine
     pre_fits = subst (λ ns. fits sizes ns [] o.pre ≡ true) in_scope
         (formula_fits sizes (scope_in m o) (names o.params ++ result_names o.results ++ global_names y) o.pre [] of.precondition)
 
-    agree : (x : Name) (a c : Kind) → typed.kind_in (o.results ++ targets_of m.variables) x ≡ Some a → kind_in (ps ++ vs) x ≡ Some c → a ≡ c
+    agree : (x : Name) (a c : Kind) → typed.kind_of_target (o.results ++ targets_of m.variables) x ≡ Some a → kind_in (ps ++ vs) x ≡ Some c → a ≡ c
     agree x a c h i = fitting.result_target o.results (targets_of m.variables) x a (a ≡ c) h
         (λ r. absurd (of_result r))
         (λ v. let is = sym (fitting.targets_kind sizes m.variables x) ∙ v in

@@ -11,7 +11,7 @@ use Rattle.cb_lex.specs.declared.raw.text.RawState.{RawState}
 use Rattle.cb_lex.specs.declared.raw.sign.RawRelation.{RawRelation}
 use Rattle.cb_lex.specs.RawTermTree.{RawTermTree, Name, RawFormulaTree, And, Relation}
 use Rattle.cb_forms.specs.Faults.{Faults, Nowhere, Both, fault_if}
-use Rattle.cb_forms.specs.Find.{found, inside, with_number}
+use Rattle.cb_forms.specs.Find.{found, inside, beside, with_number}
 use Rattle.cb_judge.specs.declared.domain.Choice.{Choice}
 use Rattle.cb_judge.specs.declared.names.Entry.{Entry}
 use Rattle.cb_judge.specs.declared.names.Meaning.{Meaning}
@@ -85,8 +85,14 @@ sort_fault (sort.Variable owner) ns ds x = domain_faults (found x.text ds) x.pla
 sort_fault sort.Parameter ns ds x = domain_faults (found x.text ds) x.place
 sort_fault s ns ds x = Nowhere
 
+-- of two globals the first stays, and a local stands beside a global that has its name
+abbrev pub with_entry : Sort → List ℕ → Entry → Names → Names
+with_entry sort.Parameter x e names = beside x e names
+with_entry sort.Result x e names = beside x e names
+with_entry s x e names = inside x e names
+
 abbrev pub with_name : Sort → Numbers → Domains → ℕ → RawName → Names → Names
-with_name s ns ds i x names = inside x.text (entry (meaning_of s ns ds i x) x.place) names
+with_name s ns ds i x names = with_entry s x.text (entry (meaning_of s ns ds i x) x.place) names
 
 -- the names with those of a list
 abbrev pub declared : Sort → Numbers → Domains → ℕ → Names → List RawName → Names

@@ -2,7 +2,7 @@
 
 ghost use Rattle.std.specs.Prelude.{◌≡◌, [], IfOk, OnOk, option_copied};
 ghost use Rattle.cb_forms.specs.Faults.{first};
-ghost use Rattle.cb_types.specs.Declares.{next, or_zero, literal_number, numbers_from, with_choice, with_conjunct, domains_from, domains_of, meaning_of, domain_faults, sort_fault, with_name, declared, declare_fault};
+ghost use Rattle.cb_types.specs.Declares.{next, or_zero, literal_number, numbers_from, with_choice, with_conjunct, domains_from, domains_of, meaning_of, domain_faults, sort_fault, with_entry, with_name, declared, declare_fault};
 
 use cb_forms::fault::{Fault, earlier, when};
 use cb_forms::table::Table;
@@ -193,6 +193,23 @@ fn own_fault(
     }
 }
 
+// Adds a name of the sort.
+fn enter_of(
+    alloc: Global,
+    names: &mut Table<Entry>,
+    sort: Sort,
+    name: &[u8],
+    entry: Entry,
+) -> Result<(), Memory>
+    ensures { OnOk result (names.new ≡ with_entry sort name.now entry names.old) }
+{
+    match sort {
+        Sort::Parameter => Ok(names.enter_beside(alloc, name, entry)?),
+        Sort::Result => Ok(names.enter_beside(alloc, name, entry)?),
+        _ => Ok(names.enter(alloc, name, entry)?),
+    }
+}
+
 fn enter(
     alloc: Global,
     names: &mut Table<Entry>,
@@ -206,7 +223,13 @@ fn enter(
 {
     let meaning = meaning(sort, numbers, domains, index, name);
     let place = name.place;
-    names.enter(alloc, name.text.as_slice(), Entry { meaning, place })
+    enter_of(
+        alloc,
+        names,
+        sort,
+        name.text.as_slice(),
+        Entry { meaning, place },
+    )
 }
 
 /// Declares the names of a list, where domains play no part.
@@ -268,7 +291,8 @@ pub fn declare(
     let mut fault = None;
     let mut index = 0;
     for name in list {
-        let own = earlier(double(names, name), own_fault(sort, numbers, domains, name));
+        let twice = double(alloc, names, name)?;
+        let own = earlier(twice, own_fault(sort, numbers, domains, name));
         fault = earlier(fault, own);
         enter(alloc, names, sort, numbers, domains, index, name)?;
         index = next_number(index);

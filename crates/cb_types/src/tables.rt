@@ -46,8 +46,9 @@ fn declare_set(
     ensures names { OnOk result (names.new ≡ declared (element owner set) [] [] 0 (with_set_name owner set raw.now names.old) raw.now.elements) }
     ensures fault { IfOk result (λ f. f ≡ first (set_fault owner set names.old raw.now)) }
 {
+    let twice = double(alloc, names, &raw.name)?;
     let own = earlier(
-        double(names, &raw.name),
+        twice,
         when(raw.elements.as_slice().len() > 256, 12, raw.name.place),
     );
     enter_set(alloc, names, owner, set, raw)?;
@@ -117,7 +118,7 @@ fn declare_statics(
     ensures next { IfOk result (λ r. r.0 ≡ after_sets set machine.now.sets) }
     ensures fault { IfOk result (λ r. r.1 ≡ first (statics_fault owner set names.old machine.now)) }
 {
-    let own = double(names, &machine.name);
+    let own = double(alloc, names, &machine.name)?;
     enter_machine(alloc, names, owner, &machine.name)?;
     let (next, sets) = declare_sets(alloc, names, owner, set, machine.sets.as_slice())?;
     let constants = declare_constants(alloc, names, owner, machine)?;

@@ -3,16 +3,16 @@ use Rattle.std.proofs.Common.{◌≡◌, ℕ, List, [], ◌∷◌, ◌++◌, len
 use Rattle.cb_lex.specs.declared.raw.name.RawName.{RawName}
 use Rattle.cb_lex.specs.declared.raw.text.RawMachine.{RawMachine}
 use Rattle.cb_lex.specs.declared.raw.text.RawSet.{RawSet}
-use Rattle.cb_forms.specs.Find.{found, inside}
+use Rattle.cb_forms.specs.Find.{found, inside, beside}
 use Rattle.cb_judge.specs.declared.names.Meaning.{Meaning}
 use Rattle.cb_judge.specs.declared.names.Meaning.TheVariants as meaning
 use Rattle.cb_judge.specs.Meanings.{Names}
 use Rattle.cb_judge.specs.Judged.{entry}
 use Rattle.cb_types.specs.declared.declare.Sort.{Sort}
 use Rattle.cb_types.specs.declared.declare.Sort.TheVariants as sort
-use Rattle.cb_types.specs.Declares.{Numbers, Domains, next, numbers_from, meaning_of, with_name, declared, declare_fault, with_set_name, with_sets, sets_fault, after_sets, with_machine_name, with_statics, statics_fault, own_domains, variables_of, with_variables, names_of, globals_fault, names_fault}
+use Rattle.cb_types.specs.Declares.{Numbers, Domains, next, numbers_from, meaning_of, with_entry, with_name, declared, declare_fault, with_set_name, with_sets, sets_fault, after_sets, with_machine_name, with_statics, statics_fault, own_domains, variables_of, with_variables, names_of, globals_fault, names_fault}
 use Rattle.cb_typing.proofs.Clean.{Clean}
-use Rattle.cb_typing.proofs.Lookups.{inside_new}
+use Rattle.cb_typing.proofs.Lookups.{inside_new, beside_new}
 use Rattle.cb_typing.proofs.Under.{new_name}
 use Rattle.cb_typing.proofs.Counts.{AllNew, new_append}
 
@@ -64,6 +64,23 @@ adds_none w = record { is = sym (nothing w); new = tt }
 pub adds_one : (w : Names) (x : RawName) (m : Meaning) → found x.text w ≡ None → Adds w (inside x.text (entry m x.place) w) ((x.text, entry m x.place) ∷ [])
 adds_one w x m h = record { is = inside_new x.text (entry m x.place) w h; new = (h, tt) }
 
+-- a name of any sort
+adds_entry : (s : Sort) (w : Names) (x : RawName) (m : Meaning) → found x.text w ≡ None → Adds w (with_entry s x.text (entry m x.place) w) ((x.text, entry m x.place) ∷ [])
+adds_entry s w x m h = record { is = by s; new = (h, tt) }
+  where
+    global : inside x.text (entry m x.place) w ≡ w ++ (x.text, entry m x.place) ∷ []
+    global = inside_new x.text (entry m x.place) w h
+
+    local : beside x.text (entry m x.place) w ≡ w ++ (x.text, entry m x.place) ∷ []
+    local = beside_new x.text (entry m x.place) w h
+
+    by : (s : Sort) → with_entry s x.text (entry m x.place) w ≡ w ++ (x.text, entry m x.place) ∷ []
+    by (sort.Element owner set) = global
+    by (sort.Constant owner) = global
+    by (sort.Variable owner) = global
+    by sort.Parameter = local
+    by sort.Result = local
+
 pub adds_then : (w w' w'' D E : Names) → Adds w w' D → Adds w' w'' E → Adds w w'' (D ++ E)
 adds_then w w' w'' D E a b = record {
   is = b.is ∙ ap (λ v. v ++ E) a.is ∙ append_assoc w D E;
@@ -74,7 +91,7 @@ pub declared_adds : (s : Sort) (ns : Numbers) (ds : Domains) (xs : List RawName)
 declared_adds s ns ds [] i w h = adds_none w
 declared_adds s ns ds (x ∷ xs) i w h =
     adds_then w (with_name s ns ds i x w) (declared s ns ds (next i) (with_name s ns ds i x w) xs) ((x.text, entry (meaning_of s ns ds i x) x.place) ∷ []) (entries s ns ds (next i) xs)
-    (adds_one w x (meaning_of s ns ds i x) (new_name w x h.0.0)) (declared_adds s ns ds xs (next i) (with_name s ns ds i x w) h.1)
+    (adds_entry s w x (meaning_of s ns ds i x) (new_name w x h.0.0)) (declared_adds s ns ds xs (next i) (with_name s ns ds i x w) h.1)
 
 pub sets_add : (owner : ℕ) (ss : List RawSet) (k : ℕ) (w : Names) → Clean (sets_fault owner k w ss) → Adds w (with_sets owner k w ss) (set_entries owner k ss)
 sets_add owner [] k w h = adds_none w

@@ -14,13 +14,11 @@ use Rattle.cb_judge.specs.Meanings.{Names}
 use Rattle.cb_judge.specs.Judged.{entry}
 use Rattle.cb_types.specs.declared.declare.Sort.{Sort}
 use Rattle.cb_types.specs.declared.declare.Sort.TheVariants as sort
-use Rattle.cb_types.specs.Declares.{Numbers, Domains, next, or_zero, numbers_from, meaning_of, with_name, declared, with_set_name, with_sets, after_sets, with_machine_name, with_statics, statics_of, reserved}
-use Rattle.cb_types.specs.NormalMachines.{written_name, set_in, sets_of, known_in, names_in}
-use Rattle.cb_types.specs.Whole.{WellFormed}
+use Rattle.cb_types.specs.Declares.{Numbers, Domains, next, or_zero, numbers_from, meaning_of, with_entry, with_name, declared, with_set_name, with_sets, after_sets, with_machine_name, with_statics, statics_of}
+use Rattle.cb_types.specs.NormalMachines.{written_name, set_in, sets_of}
 use Rattle.cb_typing.specs.WrittenText.{FitsNumbers, AreWrittenSets, AreWrittenMachines}
-use Rattle.cb_typing.proofs.Counts.{Each, each_append, each_found, found_parts, FoundIn}
+use Rattle.cb_typing.proofs.Counts.{Each, each_append}
 use Rattle.cb_typing.proofs.Declared.{entries, set_entries, constant_entries, static_entries, variable_entries, machine_entries, text_entries, statics_entries}
-use Rattle.cb_typing.proofs.Globals.{text_is, text_distinct}
 
 -- ---- entries of a list, and of machines
 
@@ -54,38 +52,31 @@ module _ (P : List ℕ → Entry → Type 0) where
       by true = h
       by false = each_append P w ((x, e) ∷ []) h (p, tt)
 
-  declared_each : (s : Sort) (ns : Numbers) (ds : Domains) (xs : List RawName) (i : ℕ) (w : Names) → Each P w → Each P (entries s ns ds i xs) → Each P (declared s ns ds i w xs)
-  declared_each s ns ds [] i w h k = h
-  declared_each s ns ds (x ∷ xs) i w h k = declared_each s ns ds xs (next i) (with_name s ns ds i x w) (inside_each x.text (entry (meaning_of s ns ds i x) x.place) w k.0 h) k.1
+  declared_each : (s : Sort) (ns : Numbers) (ds : Domains) → ((x : List ℕ) (e : Entry) (w : Names) → with_entry s x e w ≡ inside x e w) → (xs : List RawName) (i : ℕ) (w : Names) →
+      Each P w → Each P (entries s ns ds i xs) → Each P (declared s ns ds i w xs)
+  declared_each s ns ds global [] i w h k = h
+  declared_each s ns ds global (x ∷ xs) i w h k =
+      let e = entry (meaning_of s ns ds i x) x.place in
+      declared_each s ns ds global xs (next i) (with_name s ns ds i x w) (subst (Each P) (sym (global x.text e w)) (inside_each x.text e w k.0 h)) k.1
 
   sets_each : (owner : ℕ) (ss : List RawSet) (k : ℕ) (w : Names) → Each P w → Each P (set_entries owner k ss) → Each P (with_sets owner k w ss)
   sets_each owner [] k w h p = h
   sets_each owner (s ∷ ss) k w h p =
       let a = inside_each s.name.text (entry (meaning.Set owner k (length s.elements)) s.name.place) w p.0 h in
-      let b = declared_each (sort.Element owner k) [] [] s.elements 0 (with_set_name owner k s w) a (each_front (entries (sort.Element owner k) [] [] 0 s.elements) (set_entries owner (next k) ss) p.1) in
+      let b = declared_each (sort.Element owner k) [] [] (λ x e w. refl) s.elements 0 (with_set_name owner k s w) a (each_front (entries (sort.Element owner k) [] [] 0 s.elements) (set_entries owner (next k) ss) p.1) in
       sets_each owner ss (next k) (declared (sort.Element owner k) [] [] 0 (with_set_name owner k s w) s.elements) b (each_back (entries (sort.Element owner k) [] [] 0 s.elements) (set_entries owner (next k) ss) p.1)
 
-  statics_each : (owner k : ℕ) (w : Names) (m : RawMachine) → Each P w → Each P (static_entries owner k m) → Each P (with_statics owner k w m)
+  pub statics_each : (owner k : ℕ) (w : Names) (m : RawMachine) → Each P w → Each P (static_entries owner k m) → Each P (with_statics owner k w m)
   statics_each owner k w m h p =
       let a = inside_each m.name.text (entry (meaning.Machine owner) m.name.place) w p.0 h in
       let b = sets_each owner m.sets k (with_machine_name owner m.name w) a (each_front (set_entries owner k m.sets) (constant_entries owner m) p.1) in
-      declared_each (sort.Constant owner) (numbers_from [] m.properties) [] m.constants 0 (with_sets owner k (with_machine_name owner m.name w) m.sets) b (each_back (set_entries owner k m.sets) (constant_entries owner m) p.1)
+      declared_each (sort.Constant owner) (numbers_from [] m.properties) [] (λ x e w. refl) m.constants 0 (with_sets owner k (with_machine_name owner m.name w) m.sets) b (each_back (set_entries owner k m.sets) (constant_entries owner m) p.1)
 
-  known_each : (ms : List RawMachine) (owner k : ℕ) (w : Names) → Each P w → Each P (statics_entries owner k ms) → Each P (statics_of owner k w ms)
+  pub known_each : (ms : List RawMachine) (owner k : ℕ) (w : Names) → Each P w → Each P (statics_entries owner k ms) → Each P (statics_of owner k w ms)
   known_each [] owner k w h p = h
   known_each (m ∷ ms) owner k w h p =
       known_each ms (next owner) (after_sets k m.sets) (with_statics owner k w m) (statics_each owner k w m h (each_front (static_entries owner k m) (statics_entries (next owner) (after_sets k m.sets) ms) p))
       (each_back (static_entries owner k m) (statics_entries (next owner) (after_sets k m.sets) ms) p)
-
--- what stands for a name before variables are known stays
-pub known_stays : (ms : List RawMachine) → WellFormed ms → (x : List ℕ) (e : Entry) → found x (known_in ms) ≡ Some e → found x (names_in ms) ≡ Some e
-known_stays ms h x e i =
-    let D = text_entries (known_in ms) 0 0 ms in
-    let all : FoundIn (reserved ++ D) (reserved ++ D) = found_parts (reserved ++ D) (text_distinct ms h) in
-    let so : FoundIn (names_in ms) (reserved ++ D) = subst (λ w. FoundIn w (reserved ++ D)) (sym (text_is ms h).is) all in
-    each_found (λ x m. found x (names_in ms) ≡ Some m) (known_in ms)
-    (known_each (λ x m. found x (names_in ms) ≡ Some m) ms 0 0 reserved (each_front (λ x m. found x (names_in ms) ≡ Some m) reserved D so)
-    (each_static (λ x m. found x (names_in ms) ≡ Some m) (known_in ms) 0 0 ms (each_back (λ x m. found x (names_in ms) ≡ Some m) reserved D so))) x e i
 
 -- ---- numbers of sets
 

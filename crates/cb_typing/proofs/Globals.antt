@@ -7,21 +7,16 @@ use Rattle.cb_term.specs.declared.name.Name.{Name}
 use Rattle.cb_term.specs.declared.table.SetNames.{SetNames}
 use Rattle.cb_term.specs.Names.{same_name}
 use Rattle.cb_spec.specs.declared.system.Machine.{Machine}
-use Rattle.cb_spec.specs.declared.system.System.{System}
 use Rattle.cb_spec.specs.Bound.{names}
-use Rattle.cb_spec.specs.Typed.{global_names}
 use Rattle.cb_judge.specs.Meanings.{Names}
 use Rattle.cb_normal.specs.Normal.{written}
 use Rattle.cb_types.specs.declared.declare.Sort.{Sort}
 use Rattle.cb_types.specs.declared.declare.Sort.TheVariants as sort
 use Rattle.cb_types.specs.Declares.{Numbers, Domains, next, numbers_from, own_domains, variables_of, after_sets, reserved}
-use Rattle.cb_types.specs.NormalMachines.{written_name, declared_name, machine_in, machines_in, set_in, constant_in, sets_of, constants_of, known_in, names_in, machine_with}
-use Rattle.cb_types.specs.Whole.{WellFormed, IsSystemOf, faults_of}
-use Rattle.cb_typing.specs.WholeLaws.{GlobalNamesAreNew}
-use Rattle.cb_typing.proofs.Clean.{Clean, clean_of}
+use Rattle.cb_types.specs.NormalMachines.{written_name, declared_name, machine_in, machines_in, set_in, constant_in, sets_of, constants_of, machine_with}
 use Rattle.cb_typing.proofs.Under.{same_written}
-use Rattle.cb_typing.proofs.Counts.{hit, count, count_append, Distinct, texts, texts_append, new_distinct, times, times_append, AreWritten, written_append, are_new}
-use Rattle.cb_typing.proofs.Declared.{entries, set_entries, constant_entries, static_entries, variable_entries, machine_entries, text_entries, text_adds, Adds}
+use Rattle.cb_typing.proofs.Counts.{hit, count, count_append, Distinct, texts, texts_append, times, times_append, AreWritten, written_append}
+use Rattle.cb_typing.proofs.Declared.{entries, set_entries, constant_entries, static_entries, variable_entries, machine_entries, text_entries}
 
 pub hit_same : (x y : List ℕ) → hit (same_name (written x) (written y)) ≡ hit (bytes_eq x y)
 hit_same x y = ap hit (same_written x y)
@@ -45,10 +40,10 @@ variables_times x ds owner i (y ∷ ys) = omega (arith, hit_same x y.text, varia
 pub count_parts : (x : List ℕ) (a b : Names) → count x (texts (a ++ b)) ≡ count x (texts a) + count x (texts b)
 count_parts x a b = ap (count x) (texts_append a b) ∙ count_append x (texts a) (texts b)
 
-abbrev set_name_list : List SetNames → List Name
+abbrev pub set_name_list : List SetNames → List Name
 set_name_list ss = map (λ (s : SetNames). s.name) ss
 
-abbrev element_list : List SetNames → List Name
+abbrev pub element_list : List SetNames → List Name
 element_list ss = flat_map (λ (s : SetNames). s.elements) ss
 
 sets_times : (x : List ℕ) (owner k : ℕ) (ss : List RawSet) → times x (set_name_list (map set_in ss)) + times x (element_list (map set_in ss)) ≡ count x (texts (set_entries owner k ss))
@@ -81,13 +76,13 @@ constants_parts x (c ∷ a) b = omega (arith, constants_parts x a b)
 
 -- ---- the whole text
 
-abbrev machine_name_list : List Machine → List Name
+abbrev pub machine_name_list : List Machine → List Name
 machine_name_list ms = map (λ (m : Machine). m.name) ms
 
-abbrev variable_list : List Machine → List Name
+abbrev pub variable_list : List Machine → List Name
 variable_list ms = flat_map (λ (m : Machine). names m.variables) ms
 
-text_times : (x : List ℕ) (known all : Names) (owner k : ℕ) (ms : List RawMachine) →
+pub text_times : (x : List ℕ) (known all : Names) (owner k : ℕ) (ms : List RawMachine) →
     times x (set_name_list (sets_of ms)) + times x (element_list (sets_of ms)) + times x (map (λ (c : Name × ℤ). c.0) (constants_of ms))
     + times x (machine_name_list (machines_in known all owner ms)) + times x (variable_list (machines_in known all owner ms)) ≡ count x (texts (text_entries known owner k ms))
 unfolding machine_in machine_with
@@ -117,7 +112,7 @@ unfolding set_in
 sets_written [] = tt
 sets_written (s ∷ ss) = (refl, sets_written ss)
 
-all_sets_written : (ms : List RawMachine) → AreWritten (set_name_list (sets_of ms))
+pub all_sets_written : (ms : List RawMachine) → AreWritten (set_name_list (sets_of ms))
 all_sets_written [] = tt
 all_sets_written (m ∷ ms) = subst AreWritten (sym (map_parts (λ (s : SetNames). s.name) (map set_in m.sets) (sets_of ms))) (written_append (set_name_list (map set_in m.sets)) (set_name_list (sets_of ms)) (sets_written m.sets) (all_sets_written ms))
 
@@ -130,7 +125,7 @@ unfolding set_in
 elements_written [] = tt
 elements_written (s ∷ ss) = written_append (map written_name s.elements) (element_list (map set_in ss)) (names_written s.elements) (elements_written ss)
 
-all_elements_written : (ms : List RawMachine) → AreWritten (element_list (sets_of ms))
+pub all_elements_written : (ms : List RawMachine) → AreWritten (element_list (sets_of ms))
 all_elements_written [] = tt
 all_elements_written (m ∷ ms) = subst AreWritten (sym (flat_parts (map set_in m.sets) (sets_of ms))) (written_append (element_list (map set_in m.sets)) (element_list (sets_of ms)) (elements_written m.sets) (all_elements_written ms))
 
@@ -139,14 +134,14 @@ unfolding constant_in
 constants_written ns [] = tt
 constants_written ns (x ∷ xs) = (refl, constants_written ns xs)
 
-all_constants_written : (ms : List RawMachine) → AreWritten (map (λ (c : Name × ℤ). c.0) (constants_of ms))
+pub all_constants_written : (ms : List RawMachine) → AreWritten (map (λ (c : Name × ℤ). c.0) (constants_of ms))
 all_constants_written [] = tt
 all_constants_written (m ∷ ms) =
     subst AreWritten (sym (map_parts (λ (c : Name × ℤ). c.0) (map (constant_in (numbers_from [] m.properties)) m.constants) (constants_of ms)))
     (written_append (map (λ (c : Name × ℤ). c.0) (map (constant_in (numbers_from [] m.properties)) m.constants)) (map (λ (c : Name × ℤ). c.0) (constants_of ms))
     (constants_written (numbers_from [] m.properties) m.constants) (all_constants_written ms))
 
-machines_written : (known all : Names) (owner : ℕ) (ms : List RawMachine) → AreWritten (machine_name_list (machines_in known all owner ms))
+pub machines_written : (known all : Names) (owner : ℕ) (ms : List RawMachine) → AreWritten (machine_name_list (machines_in known all owner ms))
 unfolding machine_in machine_with
 machines_written known all owner [] = tt
 machines_written known all owner (m ∷ ms) = (refl, machines_written known all (next owner) ms)
@@ -156,75 +151,16 @@ unfolding declared_name
 declared_written ds [] = tt
 declared_written ds (x ∷ xs) = (refl, declared_written ds xs)
 
-variables_written : (known all : Names) (owner : ℕ) (ms : List RawMachine) → AreWritten (variable_list (machines_in known all owner ms))
+pub variables_written : (known all : Names) (owner : ℕ) (ms : List RawMachine) → AreWritten (variable_list (machines_in known all owner ms))
 unfolding machine_in machine_with
 variables_written known all owner [] = tt
 variables_written known all owner (m ∷ ms) =
     written_append (names (map (declared_name (own_domains known owner m)) (variables_of m.state))) (variable_list (machines_in known all (next owner) ms))
     (declared_written (own_domains known owner m) (variables_of m.state)) (variables_written known all (next owner) ms)
 
--- ---- the global names
-
-abbrev pub from_parts : List SetNames → List (Name × ℤ) → List Machine → List Name
-from_parts ss cs ms = set_name_list ss ++ element_list ss ++ map (λ (c : Name × ℤ). c.0) cs ++ machine_name_list ms ++ variable_list ms ++ [] ++ []
-
-pub global_is : (ms : List RawMachine) (y : System) → IsSystemOf ms y → global_names y ≡ from_parts (sets_of ms) (constants_of ms) (machines_in (known_in ms) (names_in ms) 0 ms)
-global_is ms y i = rw (i.sets, i.constants, i.machines, i.channels, i.controllers) refl
-
-parts_times : (x : List ℕ) (ss : List SetNames) (cs : List (Name × ℤ)) (ms : List Machine) →
-    times x (from_parts ss cs ms) ≡ times x (set_name_list ss) + times x (element_list ss) + times x (map (λ (c : Name × ℤ). c.0) cs) + times x (machine_name_list ms) + times x (variable_list ms)
-parts_times x ss cs ms =
-    let a = set_name_list ss in
-    let b = element_list ss in
-    let c = map (λ (c : Name × ℤ). c.0) cs in
-    let d = machine_name_list ms in
-    let e = variable_list ms in
-    let p = times_append x a b in
-    let q = times_append x (a ++ b) c in
-    let r = times_append x (a ++ b ++ c) d in
-    let s = times_append x (a ++ b ++ c ++ d) e in
-    let t = times_append x (a ++ b ++ c ++ d ++ e) [] in
-    let u = times_append x (a ++ b ++ c ++ d ++ e ++ []) [] in
-    omega (arith, p, q, r, s, t, u)
-
-parts_written : (ms : List RawMachine) (known all : Names) → AreWritten (from_parts (sets_of ms) (constants_of ms) (machines_in known all 0 ms))
-parts_written ms known all =
-    let a = set_name_list (sets_of ms) in
-    let b = element_list (sets_of ms) in
-    let c = map (λ (c : Name × ℤ). c.0) (constants_of ms) in
-    let d = machine_name_list (machines_in known all 0 ms) in
-    let e = variable_list (machines_in known all 0 ms) in
-    written_append (a ++ b ++ c ++ d ++ e ++ []) [] (written_append (a ++ b ++ c ++ d ++ e) []
-    (written_append (a ++ b ++ c ++ d) e (written_append (a ++ b ++ c) d (written_append (a ++ b) c (written_append a b (all_sets_written ms) (all_elements_written ms)) (all_constants_written ms))
-    (machines_written known all 0 ms)) (variables_written known all 0 ms)) tt) tt
-
 hit_small : (b : Bool) → hit b ≤ 1
 hit_small true = omega arith
 hit_small false = omega arith
 
-reserved_distinct : Distinct (texts reserved)
+pub reserved_distinct : Distinct (texts reserved)
 reserved_distinct x = let h = hit_small (bytes_eq x (97 ∷ 110 ∷ 121 ∷ [])) in omega (arith, h)
-
-pub text_clean : (ms : List RawMachine) → WellFormed ms → Clean (faults_of ms)
-text_clean ms h = clean_of (faults_of ms) h
-
-pub text_is : (ms : List RawMachine) → WellFormed ms → Adds reserved (names_in ms) (text_entries (known_in ms) 0 0 ms)
-text_is ms h = text_adds (known_in ms) ms 0 0 reserved (text_clean ms h).0
-
-pub text_distinct : (ms : List RawMachine) → WellFormed ms → Distinct (texts (reserved ++ text_entries (known_in ms) 0 0 ms))
-text_distinct ms h = new_distinct reserved (text_entries (known_in ms) 0 0 ms) reserved_distinct (text_is ms h).new
-
--- the global names are those of the entries
-pub global_times : (ms : List RawMachine) (y : System) → IsSystemOf ms y → (x : List ℕ) → times x (global_names y) ≡ count x (texts (text_entries (known_in ms) 0 0 ms))
-global_times ms y i x =
-    ap (times x) (global_is ms y i) ∙ parts_times x (sets_of ms) (constants_of ms) (machines_in (known_in ms) (names_in ms) 0 ms) ∙ text_times x (known_in ms) (names_in ms) 0 0 ms
-
-pub global_names_are_new : GlobalNamesAreNew
-global_names_are_new ms h y i = are_new [] (global_names y) (subst AreWritten (sym (global_is ms y i)) (parts_written ms (known_in ms) (names_in ms))) once
-  where
-    once : (x : List ℕ) → times x [] + times x (global_names y) ≤ 1
-    once x =
-        let a = global_times ms y i x in
-        let b = text_distinct ms h x in
-        let c = count_parts x reserved (text_entries (known_in ms) 0 0 ms) in
-        omega (arith, a, b, c)

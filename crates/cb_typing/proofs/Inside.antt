@@ -9,7 +9,7 @@ use Rattle.cb_term.specs.Names.{same_name}
 use Rattle.cb_spec.specs.Bound.{names, result_names}
 use Rattle.cb_spec.specs.Forms.{Form}
 use Rattle.cb_spec.specs.TypedProcesses.{scope_of}
-use Rattle.cb_spec.specs.TypedSubsts.{kind_in}
+use Rattle.cb_spec.specs.TypedSubsts.{kind_of_target}
 use Rattle.cb_spec.specs.TypedTerms.{Scope, form_in}
 use Rattle.cb_forms.specs.Find.{found}
 use Rattle.cb_judge.specs.declared.names.Entry.{Entry}
@@ -76,11 +76,11 @@ form_front (p ∷ a) b x f h = by (same_name x p.0) h (form_front a b x f)
     by true h r = h
     by false h r = r h
 
-pub kind_front : (a b : List (Name × Kind)) (x : Name) (f : Kind) → kind_in a x ≡ Some f → kind_in (a ++ b) x ≡ Some f
+pub kind_front : (a b : List (Name × Kind)) (x : Name) (f : Kind) → kind_of_target a x ≡ Some f → kind_of_target (a ++ b) x ≡ Some f
 kind_front [] b x f h = let no : ⊥ = cc in absurd no
 kind_front (p ∷ a) b x f h = by (same_name x p.0) h (kind_front a b x f)
   where
-    by : (t : Bool) → (if t then Some p.1 else kind_in a x) ≡ Some f → (kind_in a x ≡ Some f → kind_in (a ++ b) x ≡ Some f) → (if t then Some p.1 else kind_in (a ++ b) x) ≡ Some f
+    by : (t : Bool) → (if t then Some p.1 else kind_of_target a x) ≡ Some f → (kind_of_target a x ≡ Some f → kind_of_target (a ++ b) x ≡ Some f) → (if t then Some p.1 else kind_of_target (a ++ b) x) ≡ Some f
     by true h r = h
     by false h r = r h
 
@@ -96,20 +96,20 @@ form_back ds (y ∷ ys) b x i h =
     let n = no_hit (bytes_eq x y.text) (count x (texts (entries sort.Parameter [] ds (next i) ys))) h in
     rw (same_written x y.text ∙ n.0) (form_back ds ys b x (next i) n.1)
 
-pub kind_back : (rs : Results) (xs : List RawName) (b : List (Name × Kind)) (x : List ℕ) (i : ℕ) → count x (texts (entries sort.Result [] [] i xs)) ≡ 0 → kind_in (map (result_name rs) xs ++ b) (written x) ≡ kind_in b (written x)
+pub kind_back : (rs : Results) (xs : List RawName) (b : List (Name × Kind)) (x : List ℕ) (i : ℕ) → count x (texts (entries sort.Result [] [] i xs)) ≡ 0 → kind_of_target (map (result_name rs) xs ++ b) (written x) ≡ kind_of_target b (written x)
 unfolding result_name
 kind_back rs [] b x i h = refl
 kind_back rs (y ∷ ys) b x i h =
     let n = no_hit (bytes_eq x y.text) (count x (texts (entries sort.Result [] [] (next i) ys))) h in
     rw (same_written x y.text ∙ n.0) (kind_back rs ys b x (next i) n.1)
 
-pub results_have : (rs : Results) (xs : List RawName) (x : RawName) → Has xs x → kind_in (map (result_name rs) xs) (written x.text) ≡ Some (given_kind (found x.text rs))
+pub results_have : (rs : Results) (xs : List RawName) (x : RawName) → Has xs x → kind_of_target (map (result_name rs) xs) (written x.text) ≡ Some (given_kind (found x.text rs))
 unfolding result_name
 results_have rs [] x m = absurd m
 results_have rs (y ∷ ys) x m = by (results_have rs ys x) (bytes_eq x.text y.text) refl m
   where
-    by : (Has ys x → kind_in (map (result_name rs) ys) (written x.text) ≡ Some (given_kind (found x.text rs))) → (b : Bool) → bytes_eq x.text y.text ≡ b → (y ≡ x) ⊎ Has ys x →
-        kind_in (map (result_name rs) (y ∷ ys)) (written x.text) ≡ Some (given_kind (found x.text rs))
+    by : (Has ys x → kind_of_target (map (result_name rs) ys) (written x.text) ≡ Some (given_kind (found x.text rs))) → (b : Bool) → bytes_eq x.text y.text ≡ b → (y ≡ x) ⊎ Has ys x →
+        kind_of_target (map (result_name rs) (y ∷ ys)) (written x.text) ≡ Some (given_kind (found x.text rs))
     by r true q m = let i : x.text ≡ y.text = bytes_tell x.text y.text q in rw (same_written x.text y.text ∙ q) (ap (λ t. Some (given_kind (found t rs))) (sym i))
     by r false q (inl e) = absurd (true≢false (sym (bytes_self x.text) ∙ ap (λ (z : RawName). bytes_eq x.text z.text) (sym e) ∙ q))
     by r false q (inr m) = rw (same_written x.text y.text ∙ q) (r m)
@@ -176,4 +176,5 @@ means_same v sizes scope scope' n n' x (meaning.Element owner set index) e h = h
 means_same v sizes scope scope' n n' x (meaning.Variable owner form) e h = λ i. let s = h i in (e ∙ s.0, s.1)
 means_same v sizes scope scope' n n' x (meaning.Local form) e h = (e ∙ h.0, h.1)
 means_same v sizes scope scope' n n' x (meaning.Bound level form) e h = let q = h.1 in let no : ⊥ = cc in absurd no
+means_same v sizes scope scope' n n' x meaning.Unformed e h = h
 means_same v sizes scope scope' n n' x m e h = tt

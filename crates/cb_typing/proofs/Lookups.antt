@@ -5,7 +5,7 @@ use Rattle.std.proofs.lemmas.Option.{same_Some}
 use Rattle.cb_term.specs.declared.name.Name.{Name}
 use Rattle.cb_term.specs.Names.{same_name}
 use Rattle.cb_spec.specs.Bound.{is_among}
-use Rattle.cb_forms.specs.Find.{found, inside}
+use Rattle.cb_forms.specs.Find.{found, spelled_again, inside, free_spelling, beside}
 
 pub bytes_tell : (x y : List ℕ) → bytes_eq x y ≡ true → x ≡ y
 bytes_tell x y e = (bytes_eq-Decides x y).0 e
@@ -35,6 +35,13 @@ module _ {M : Type 0} where
 
   pub inside_new : (x : List ℕ) (m : M) (w : List (List ℕ × M)) → found x w ≡ None → inside x m w ≡ w ++ (x, m) ∷ []
   inside_new x m w h = rw h refl
+
+  pub beside_is : (x : List ℕ) (m : M) (w : List (List ℕ × M)) → found x w ≡ None → beside x m w ≡ inside x m w
+  unfolding free_spelling
+  beside_is x m w h = ap (λ o. inside (if is_some o then spelled_again x else x) m w) h
+
+  pub beside_new : (x : List ℕ) (m : M) (w : List (List ℕ × M)) → found x w ≡ None → beside x m w ≡ w ++ (x, m) ∷ []
+  beside_new x m w h = beside_is x m w h ∙ inside_new x m w h
 
   pub found_last : (x : List ℕ) (m : M) (w : List (List ℕ × M)) → found x w ≡ None → found x (w ++ (x, m) ∷ []) ≡ Some m
   found_last x m w h = found_back x w ((x, m) ∷ []) h ∙ rw (bytes_self x) refl

@@ -3,12 +3,12 @@ use Rattle.std.proofs.Common.{◌≡◌, ℕ, Bool, true, false, ◌⊎◌, inl,
 use Rattle.cb_lex.specs.declared.raw.name.RawName.{RawName}
 use Rattle.cb_lex.specs.RawTermTree.{RawFormulaTree}
 use Rattle.cb_term.specs.Tree.{Var}
-use Rattle.cb_spec.specs.Domains.{kind_of, typing}
+use Rattle.cb_spec.specs.Domains.{kind_of_domain, typing}
 use Rattle.cb_spec.specs.Runs.{HasConjunct}
 use Rattle.cb_spec.specs.Forms.{form_of_domain}
 use Rattle.cb_spec.specs.Typed.{GivesDomains, targets_of}
 use Rattle.cb_spec.specs.TypedProcesses.{scope_of}
-use Rattle.cb_spec.specs.TypedSubsts.{kind_in}
+use Rattle.cb_spec.specs.TypedSubsts.{kind_of_target}
 use Rattle.cb_spec.specs.TypedTerms.{form_in, IsDomain}
 use Rattle.cb_forms.specs.Find.{found}
 use Rattle.cb_forms.specs.Kinds.{form_of}
@@ -55,13 +55,13 @@ scope_has ds (y ∷ ys) x m = by (scope_has ds ys x) (bytes_eq x.text y.text) re
     by r false q (inl e) = absurd (true≢false (sym (bytes_self x.text) ∙ ap (λ (z : RawName). bytes_eq x.text z.text) (sym e) ∙ q))
     by r false q (inr m) = rw (same_written x.text y.text ∙ q) (r m)
 
-pub targets_have : (ds : Domains) (xs : List RawName) (x : RawName) → Has xs x → kind_in (targets_of (map (declared_name ds) xs)) (written x.text) ≡ Some (kind_of (domain_or (found x.text ds)))
+pub targets_have : (ds : Domains) (xs : List RawName) (x : RawName) → Has xs x → kind_of_target (targets_of (map (declared_name ds) xs)) (written x.text) ≡ Some (kind_of_domain (domain_or (found x.text ds)))
 unfolding declared_name
 targets_have ds [] x m = absurd m
 targets_have ds (y ∷ ys) x m = by (targets_have ds ys x) (bytes_eq x.text y.text) refl m
   where
-    by : (Has ys x → kind_in (targets_of (map (declared_name ds) ys)) (written x.text) ≡ Some (kind_of (domain_or (found x.text ds)))) → (b : Bool) → bytes_eq x.text y.text ≡ b → (y ≡ x) ⊎ Has ys x → kind_in (targets_of (map (declared_name ds) (y ∷ ys))) (written x.text) ≡ Some (kind_of (domain_or (found x.text ds)))
-    by r true q m = let i : x.text ≡ y.text = bytes_tell x.text y.text q in rw (same_written x.text y.text ∙ q) (ap (λ t. Some (kind_of (domain_or (found t ds)))) (sym i))
+    by : (Has ys x → kind_of_target (targets_of (map (declared_name ds) ys)) (written x.text) ≡ Some (kind_of_domain (domain_or (found x.text ds)))) → (b : Bool) → bytes_eq x.text y.text ≡ b → (y ≡ x) ⊎ Has ys x → kind_of_target (targets_of (map (declared_name ds) (y ∷ ys))) (written x.text) ≡ Some (kind_of_domain (domain_or (found x.text ds)))
+    by r true q m = let i : x.text ≡ y.text = bytes_tell x.text y.text q in rw (same_written x.text y.text ∙ q) (ap (λ t. Some (kind_of_domain (domain_or (found t ds)))) (sym i))
     by r false q (inl e) = absurd (true≢false (sym (bytes_self x.text) ∙ ap (λ (z : RawName). bytes_eq x.text z.text) (sym e) ∙ q))
     by r false q (inr m) = rw (same_written x.text y.text ∙ q) (r m)
 

@@ -8,7 +8,7 @@ use Rattle.cb_lex.specs.declared.token.Place.{Place}
 use Rattle.cb_lex.specs.declared.raw.sign.RawRelation.{RawRelation}
 use Rattle.cb_lex.specs.declared.raw.sign.RawRelation.TheVariants as relation
 use Rattle.cb_term.specs.declared.sign.RelSign.TheVariants.{Equal, Less, AtMost, Member, Subset}
-use Rattle.cb_spec.specs.Forms.{Form, Number, Truth, Element, Numbers, TruthSet, Elements, Empty, hull, joined, single, is_some_form, with_both, may_relate}
+use Rattle.cb_spec.specs.Forms.{Form, Number, Truth, Element, Numbers, TruthSet, Elements, Empty, hull, joined_form, single, is_some_form, with_both, may_relate}
 use Rattle.cb_forms.specs.Kinds.{is_number, is_set, is_item, may_hold, wrong, side_fault, with_item, suits}
 use Rattle.cb_typing.specs.Reflects.{IsProper}
 use Rattle.cb_typing.proofs.Clean.{Clean, is_good}
@@ -24,7 +24,7 @@ same_swap j k f g e = by (j == k) refl e
     by true q e = rw (eq-eqb k j (sym (eqb-true j k q))) refl
     by false q e = absurd (true≢false (sym e))
 
-joined_swap : (f g : Form) → is_some_form (joined f g) ≡ true → is_some_form (joined g f) ≡ true
+joined_swap : (f g : Form) → is_some_form (joined_form f g) ≡ true → is_some_form (joined_form g f) ≡ true
 joined_swap (Elements j) (Elements k) e = same_swap j k (Elements j) (Elements k) e
 joined_swap (Elements j) Empty e = e
 joined_swap (Elements j) g e = e
@@ -41,15 +41,15 @@ joined_swap Empty (Elements k) e = e
 joined_swap Empty g e = e
 joined_swap f g e = absurd (true≢false (sym e))
 
-member_swap : (o : Option Form) (g : Form) → is_some_form (with_both (Some g) o joined) ≡ true → is_some_form (with_both o (Some g) joined) ≡ true
+member_swap : (o : Option Form) (g : Form) → is_some_form (with_both (Some g) o joined_form) ≡ true → is_some_form (with_both o (Some g) joined_form) ≡ true
 member_swap None g e = e
 member_swap (Some s) g e = joined_swap g s e
 
 member_relates : (f g : Form) (pa pb : Place) → Clean (wrong is_item (Some f) pa) → (may_hold (Some f) (Some g)) ≡ true → may_relate Member f g ≡ true
 member_relates f g pa pb h e =
-    let q = and_parts (is_set g) (is_set f || is_some_form (with_both (Some g) (single f) joined)) e in
+    let q = and_parts (is_set g) (is_set f || is_some_form (with_both (Some g) (single f) joined_form)) e in
     let no : is_set f ≡ false = not-true (is_set f) (right_of is_item f pa h) in
-    let r : is_some_form (with_both (Some g) (single f) joined) ≡ true = rw no at q.1 in
+    let r : is_some_form (with_both (Some g) (single f) joined_form) ≡ true = rw no at q.1 in
     member_swap (single f) g r
 
 number_relates : (f g : Form) (pa pb : Place) → Clean (wrong is_number (Some f) pa) → Clean (wrong is_number (Some g) pb) →
@@ -95,20 +95,20 @@ hull_full a b c d p q = rw (false_lt b a p, false_lt d c q) refl
 -- items go on to a set: joined with the item and then with the rest is joined with both
 pub record Onward (f s r k : Form) : Type 0 where
   pub both : Form
-  pub joins : joined s r ≡ Some both
-  pub all : joined f both ≡ Some k
+  pub joins : joined_form s r ≡ Some both
+  pub all : joined_form f both ≡ Some k
   pub full : IsFull both
 
 module _ (a b : ℤ) (p : a ≤ℤ b) where
-  onward_numbers : (f r d k : Form) → IsFull f → IsFull r → joined f (Numbers a b) ≡ Some d → joined d r ≡ Some k → Onward f (Numbers a b) r k
+  onward_numbers : (f r d k : Form) → IsFull f → IsFull r → joined_form f (Numbers a b) ≡ Some d → joined_form d r ≡ Some k → Onward f (Numbers a b) r k
   onward_numbers Empty (Numbers u v) d k x y e h =
       let q = hull_full a b u v p y in
       let i : d ≡ Numbers a b = cc in
-      let j : joined (Numbers a b) (Numbers u v) ≡ Some k = rw i at h in
+      let j : joined_form (Numbers a b) (Numbers u v) ≡ Some k = rw i at h in
       record { both = Numbers (int_min a u) (int_max b v); joins = ap Some q; all = sym (ap Some q) ∙ j; full = omega (arith, ints, clamps, p, y) }
   onward_numbers Empty Empty d k x y e h =
       let i : d ≡ Numbers a b = cc in
-      let j : joined (Numbers a b) Empty ≡ Some k = rw i at h in
+      let j : joined_form (Numbers a b) Empty ≡ Some k = rw i at h in
       record { both = Numbers a b; joins = refl; all = j; full = p }
   onward_numbers (Numbers m n) (Numbers u v) d k x y e h =
       let q = hull_full a b u v p y in
@@ -137,39 +137,39 @@ module _ (a b : ℤ) (p : a ≤ℤ b) where
       absurd no
   onward_numbers f r d k x y e h = let no : ⊥ = cc in absurd no
 
-truths_are : (r k : Form) → joined TruthSet r ≡ Some k → k ≡ TruthSet
+truths_are : (r k : Form) → joined_form TruthSet r ≡ Some k → k ≡ TruthSet
 truths_are TruthSet k e = cc
 truths_are Empty k e = cc
 truths_are r k e = let no : ⊥ = cc in absurd no
 
-truths_with : (r k : Form) → joined TruthSet r ≡ Some k → joined TruthSet r ≡ Some TruthSet
+truths_with : (r k : Form) → joined_form TruthSet r ≡ Some k → joined_form TruthSet r ≡ Some TruthSet
 truths_with r k e = e ∙ ap Some (truths_are r k e)
 
-onward_truths : (f r d k : Form) → joined f TruthSet ≡ Some d → joined d r ≡ Some k → Onward f TruthSet r k
-onward_truths Empty r d k e h = let i : d ≡ TruthSet = cc in let j : joined TruthSet r ≡ Some k = rw i at h in record { both = TruthSet; joins = truths_with r k j; all = ap Some (sym (truths_are r k j)); full = tt }
-onward_truths TruthSet r d k e h = let i : d ≡ TruthSet = cc in let j : joined TruthSet r ≡ Some k = rw i at h in record { both = TruthSet; joins = truths_with r k j; all = ap Some (sym (truths_are r k j)); full = tt }
+onward_truths : (f r d k : Form) → joined_form f TruthSet ≡ Some d → joined_form d r ≡ Some k → Onward f TruthSet r k
+onward_truths Empty r d k e h = let i : d ≡ TruthSet = cc in let j : joined_form TruthSet r ≡ Some k = rw i at h in record { both = TruthSet; joins = truths_with r k j; all = ap Some (sym (truths_are r k j)); full = tt }
+onward_truths TruthSet r d k e h = let i : d ≡ TruthSet = cc in let j : joined_form TruthSet r ≡ Some k = rw i at h in record { both = TruthSet; joins = truths_with r k j; all = ap Some (sym (truths_are r k j)); full = tt }
 onward_truths f r d k e h = let no : ⊥ = cc in absurd no
 
 some_only : (b : Bool) (f g : Form) → (if b then Some f else None) ≡ Some g → (b ≡ true) × (f ≡ g)
 some_only true f g e = (refl, same_Some f g e)
 some_only false f g e = let no : ⊥ = cc in absurd no
 
-elements_are : (j : ℕ) (r k : Form) → joined (Elements j) r ≡ Some k → k ≡ Elements j
+elements_are : (j : ℕ) (r k : Form) → joined_form (Elements j) r ≡ Some k → k ≡ Elements j
 elements_are j (Elements i) k e = sym ((some_only (j == i) (Elements j) k e).1)
 elements_are j Empty k e = cc
 elements_are j r k e = let no : ⊥ = cc in absurd no
 
-onward_elements : (j : ℕ) (f r d k : Form) → joined f (Elements j) ≡ Some d → joined d r ≡ Some k → Onward f (Elements j) r k
+onward_elements : (j : ℕ) (f r d k : Form) → joined_form f (Elements j) ≡ Some d → joined_form d r ≡ Some k → Onward f (Elements j) r k
 onward_elements j Empty r d k e h =
     let i : d ≡ Elements j = cc in
-    let q : joined (Elements j) r ≡ Some k = rw i at h in
+    let q : joined_form (Elements j) r ≡ Some k = rw i at h in
     let w = elements_are j r k q in
     record { both = Elements j; joins = q ∙ ap Some w; all = ap Some (sym w); full = tt }
 onward_elements j (Elements n) r d k e h =
     let y = some_only (n == j) (Elements n) d e in
     let z : n ≡ j = eqb-true n j y.0 in
     let i : d ≡ Elements j = sym y.1 ∙ ap Elements z in
-    let q : joined (Elements j) r ≡ Some k = rw i at h in
+    let q : joined_form (Elements j) r ≡ Some k = rw i at h in
     let w = elements_are j r k q in
     record { both = Elements j; joins = q ∙ ap Some w; all = e ∙ ap Some (i ∙ sym w); full = tt }
 onward_elements j f r d k e h = let no : ⊥ = cc in absurd no
@@ -181,23 +181,23 @@ single_full Truth s x e = let i : s ≡ TruthSet = cc in rw i tt
 single_full (Element k) s x e = let i : s ≡ Elements k = cc in rw i tt
 single_full f s x e = let no : ⊥ = cc in absurd no
 
-pub onward : (a f s r d k : Form) → IsProper a → single a ≡ Some s → IsFull f → IsFull r → joined f s ≡ Some d → joined d r ≡ Some k → Onward f s r k
+pub onward : (a f s r d k : Form) → IsProper a → single a ≡ Some s → IsFull f → IsFull r → joined_form f s ≡ Some d → joined_form d r ≡ Some k → Onward f s r k
 onward (Number a b) f s r d k x i y z e h =
     let q : s ≡ Numbers a b = cc in
-    let e' : joined f (Numbers a b) ≡ Some d = rw q at e in
+    let e' : joined_form f (Numbers a b) ≡ Some d = rw q at e in
     rw q (onward_numbers a b x f r d k y z e' h)
 onward Truth f s r d k x i y z e h =
     let q : s ≡ TruthSet = cc in
-    let e' : joined f TruthSet ≡ Some d = rw q at e in
+    let e' : joined_form f TruthSet ≡ Some d = rw q at e in
     rw q (onward_truths f r d k e' h)
 onward (Element j) f s r d k x i y z e h =
     let q : s ≡ Elements j = cc in
-    let e' : joined f (Elements j) ≡ Some d = rw q at e in
+    let e' : joined_form f (Elements j) ≡ Some d = rw q at e in
     rw q (onward_elements j f r d k e' h)
 onward a f s r d k x i y z e h = let no : ⊥ = cc in absurd no
 
 -- a set with one more item is full
-pub joined_full : (f g d : Form) → IsFull f → IsFull g → joined f g ≡ Some d → IsFull d
+pub joined_full : (f g d : Form) → IsFull f → IsFull g → joined_form f g ≡ Some d → IsFull d
 joined_full (Numbers a b) (Numbers m n) d x y e =
     let i : d ≡ Numbers (int_min a m) (int_max b n) = sym (same_Some _ _ e) ∙ hull_full a b m n x y in
     let w : int_min a m ≤ℤ int_max b n = omega (arith, ints, clamps, x, y) in
@@ -218,16 +218,16 @@ pub record Suits (done item : Form) : Type 0 where
   pub one : Form
   pub is_single : single item ≡ Some one
   pub next : Form
-  pub joins : joined done one ≡ Some next
+  pub joins : joined_form done one ≡ Some next
   pub so : with_item done (Some item) ≡ next
 
 pub suits_so : (done item : Form) → suits done (Some item) ≡ true → Suits done item
-suits_so done item e = by (single item) refl ((and_parts (is_item item) (is_some_form (with_both (Some done) (single item) joined)) e).1)
+suits_so done item e = by (single item) refl ((and_parts (is_item item) (is_some_form (with_both (Some done) (single item) joined_form)) e).1)
   where
-    after : (s : Form) (o : Option Form) → single item ≡ Some s → joined done s ≡ o → is_some_form o ≡ true → Suits done item
+    after : (s : Form) (o : Option Form) → single item ≡ Some s → joined_form done s ≡ o → is_some_form o ≡ true → Suits done item
     after s None i j e = absurd (true≢false (sym e))
     after s (Some n) i j e = record { one = s; is_single = i; next = n; joins = j; so = rw i (rw j refl) }
 
-    by : (o : Option Form) → single item ≡ o → is_some_form (with_both (Some done) o joined) ≡ true → Suits done item
+    by : (o : Option Form) → single item ≡ o → is_some_form (with_both (Some done) o joined_form) ≡ true → Suits done item
     by None i e = absurd (true≢false (sym e))
-    by (Some s) i e = after s (joined done s) i refl e
+    by (Some s) i e = after s (joined_form done s) i refl e

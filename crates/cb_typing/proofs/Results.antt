@@ -17,7 +17,7 @@ use Rattle.cb_term.specs.Names.{same_name}
 use Rattle.cb_spec.specs.Forms.{Form, Number, Truth, Element, Numbers, TruthSet, Elements, Empty, hull, form_of_domain, is_of_kind}
 use Rattle.cb_spec.specs.TypedTerms.{Scope}
 use Rattle.cb_spec.specs.TypedTerms as typed
-use Rattle.cb_spec.specs.TypedSubsts.{either_form, either, assigned, assigned_in_one, result_form}
+use Rattle.cb_spec.specs.TypedSubsts.{either_form, either, assigned_form, assigned_in_one, result_form}
 use Rattle.cb_forms.specs.Faults.{fault_if}
 use Rattle.cb_forms.specs.Find.{found, put}
 use Rattle.cb_forms.specs.Kinds.{is_set}
@@ -312,7 +312,7 @@ module _ (v : View) (x : List ℕ) (e : Entry) (m : e.meaning ≡ meaning.Result
   module _ (sizes : List ℕ) where
     among_kept : (names : Names) (scope : Scope) → found x names ≡ Some e → (rs : Results) (y : RawName) (o : Option Choice) → Clean (choice_faults o y.place) →
         Clean (target_fault v (found y.text names) rs y (chosen_form o) y.place) →
-        Kept (kind_at x rs) (kind_at x (target_next (found y.text names) rs y (chosen_form o) y.place)) (assigned sizes (written x) scope (among (written y.text) (domain_or o)))
+        Kept (kind_at x rs) (kind_at x (target_next (found y.text names) rs y (chosen_form o) y.place)) (assigned_form sizes (written x) scope (among (written y.text) (domain_or o)))
     among_kept names scope i rs y None c h = absurd c.0
     among_kept names scope i rs y (Some d) c h = assigned_kept names i rs y (form_of_domain d.domain) y.place h
 
@@ -331,14 +331,14 @@ module _ (v : View) (x : List ℕ) (e : Entry) (m : e.meaning ≡ meaning.Result
 
     mutual
       pub kept : (s : RawSubstTree) (names : Names) (scope : Scope) (taken : List Name) → Reflects v names sizes scope taken [] → Reserves names → found x names ≡ Some e → (rs : Results) → subst_depth s ≤ 2 ^ 32 →
-          Clean (subst_fault v names rs s) → Kept (kind_at x rs) (kind_at x (results_after v names rs s)) (assigned sizes (written x) scope (subst_in v names s))
+          Clean (subst_fault v names rs s) → Kept (kind_at x rs) (kind_at x (results_after v names rs s)) (assigned_form sizes (written x) scope (subst_in v names s))
       kept raw.Skip names scope taken r z i rs l h = kept_none (kind_at x rs)
       kept (raw.Assign y t) names scope taken r z i rs l h = assign_kept names scope taken i rs y t (term_good v sizes scope taken t names [] r false (omega (arith, l)) h.0) h.1
       kept (raw.Among y d) names scope taken r z i rs l h = among_kept names scope i rs y (domain_in v names d) h.0.1 h.1.0
       kept (raw.If f s) names scope taken r z i rs l h =
-          subst (λ o. Kept (kind_at x rs) (kind_at x (results_after v names rs s)) o) (sym (either_none (assigned sizes (written x) scope (subst_in v names s)))) (kept s names scope taken r z i rs (omega (arith, l)) h.1)
+          subst (λ o. Kept (kind_at x rs) (kind_at x (results_after v names rs s)) o) (sym (either_none (assigned_form sizes (written x) scope (subst_in v names s)))) (kept s names scope taken r z i rs (omega (arith, l)) h.1)
       kept (raw.IfElse f s t) names scope taken r z i rs l h =
-          kept_then (kind_at x rs) (kind_at x (results_after v names rs s)) (kind_at x (results_after v names (results_after v names rs s) t)) (assigned sizes (written x) scope (subst_in v names s)) (assigned sizes (written x) scope (subst_in v names t))
+          kept_then (kind_at x rs) (kind_at x (results_after v names rs s)) (kind_at x (results_after v names (results_after v names rs s) t)) (assigned_form sizes (written x) scope (subst_in v names s)) (assigned_form sizes (written x) scope (subst_in v names t))
           (kept s names scope taken r z i rs (omega (arith, l)) h.1.0) (kept t names scope taken r z i (results_after v names rs s) (omega (arith, l)) h.1.1)
       kept (raw.Choice ss) names scope taken r z i rs l h = sides_kept ss names scope taken r z i rs l h
       kept (raw.Any y f s) names scope taken r z i rs l h =
@@ -350,14 +350,14 @@ module _ (v : View) (x : List ℕ) (e : Entry) (m : e.meaning ≡ meaning.Result
           let i' = subst (λ o. found x (within y o names) ≡ Some e) (sym c.is) (within_stays v names sizes scope taken r y c.by c.new x e i) in
           kept s (within y o names) ((written y.text, form_of_domain (domain_or o)) ∷ scope) (written y.text ∷ taken) r' z' i' rs (omega (arith, l)) h.1.1
       kept (raw.Parallel s t) names scope taken r z i rs l h =
-          kept_then (kind_at x rs) (kind_at x (results_after v names rs s)) (kind_at x (results_after v names (results_after v names rs s) t)) (assigned sizes (written x) scope (subst_in v names s)) (assigned sizes (written x) scope (subst_in v names t))
+          kept_then (kind_at x rs) (kind_at x (results_after v names rs s)) (kind_at x (results_after v names (results_after v names rs s) t)) (assigned_form sizes (written x) scope (subst_in v names s)) (assigned_form sizes (written x) scope (subst_in v names t))
           (kept s names scope taken r z i rs (omega (arith, l)) h.0) (kept t names scope taken r z i (results_after v names rs s) (omega (arith, l)) h.1)
 
       sides_kept : (ss : RawSubsts) (names : Names) (scope : Scope) (taken : List Name) → Reflects v names sizes scope taken [] → Reserves names → found x names ≡ Some e → (rs : Results) → sides_depth ss ≤ 2 ^ 32 →
           Clean (sides_fault v names rs ss) → Kept (kind_at x rs) (kind_at x (results_after_sides v names rs ss)) (assigned_in_one sizes (written x) scope (substs_in v names ss))
       sides_kept raw.NoSide names scope taken r z i rs l h = kept_none (kind_at x rs)
       sides_kept (raw.Side s ss) names scope taken r z i rs l h =
-          kept_then (kind_at x rs) (kind_at x (results_after v names rs s)) (kind_at x (results_after_sides v names (results_after v names rs s) ss)) (assigned sizes (written x) scope (subst_in v names s)) (assigned_in_one sizes (written x) scope (substs_in v names ss))
+          kept_then (kind_at x rs) (kind_at x (results_after v names rs s)) (kind_at x (results_after_sides v names (results_after v names rs s) ss)) (assigned_form sizes (written x) scope (subst_in v names s)) (assigned_in_one sizes (written x) scope (substs_in v names ss))
           (kept s names scope taken r z i rs (omega (arith, l)) h.0) (sides_kept ss names scope taken r z i (results_after v names rs s) (omega (arith, l)) h.1)
 
 -- ---- at the end
@@ -380,4 +380,4 @@ ends (Some g) (Some f) e = ends_as f g.kind (same_Some _ _ e)
 pub results_have_kinds : ResultsHaveKinds
 results_have_kinds v names sizes scope taken r z s l h x e i m =
     let k = kept v x e m sizes s names scope taken r z i [] l (clean_of (subst_fault v names [] s) h) in
-    ends (found x (results_after v names [] s)) (assigned sizes (written x) scope (subst_in v names s)) k.at
+    ends (found x (results_after v names [] s)) (assigned_form sizes (written x) scope (subst_in v names s)) k.at

@@ -7,7 +7,7 @@ use Rattle.cb_lex.specs.declared.raw.sign.RawOperator.{RawOperator}
 use Rattle.cb_lex.specs.declared.raw.sign.RawOperator.TheVariants.{Plus, Minus, Times, Divide, Mod, UpTo, Union, Intersection}
 use Rattle.cb_term.specs.declared.sign.RelSign.TheVariants.{Equal}
 use Rattle.cb_term.specs.declared.sign.TermSign.TheVariants as sign
-use Rattle.cb_spec.specs.Forms.{Form, Number, Truth, Element, Numbers, TruthSet, Elements, Empty, hull, joined, left_set, is_some_form, product, divides, bin_form, may_relate, IsSmall}
+use Rattle.cb_spec.specs.Forms.{Form, Number, Truth, Element, Numbers, TruthSet, Elements, Empty, hull, joined_form, left_set, is_some_form, product, divides, bin_form, may_relate, IsSmall}
 use Rattle.cb_spec.specs.TypedTerms.{Unless}
 use Rattle.cb_forms.specs.declared.span.Span.{Span}
 use Rattle.cb_forms.specs.Spans.{added, taken, scaled}
@@ -141,7 +141,7 @@ if_proper : (t : Bool) (f : Form) → IsProper f → ProperOr (if t then Some f 
 if_proper true f h = h
 if_proper false f h = tt
 
-pub joined_proper : (f g : Form) → ProperOr (joined f g)
+pub joined_proper : (f g : Form) → ProperOr (joined_form f g)
 joined_proper (Numbers a b) (Numbers c d) = hull_proper a b c d
 joined_proper (Numbers a b) Empty = tt
 joined_proper (Numbers a b) g = tt
@@ -162,10 +162,10 @@ pub left_proper : (f g : Form) → is_set f ≡ true → ProperOr (left_set f g)
 left_proper Empty (Numbers a b) e = tt
 left_proper Empty TruthSet e = tt
 left_proper Empty (Elements k) e = tt
-left_proper Empty g e = if_proper (is_some_form (joined Empty g)) Empty tt
-left_proper (Numbers a b) g e = if_proper (is_some_form (joined (Numbers a b) g)) (Numbers a b) tt
-left_proper TruthSet g e = if_proper (is_some_form (joined TruthSet g)) TruthSet tt
-left_proper (Elements k) g e = if_proper (is_some_form (joined (Elements k) g)) (Elements k) tt
+left_proper Empty g e = if_proper (is_some_form (joined_form Empty g)) Empty tt
+left_proper (Numbers a b) g e = if_proper (is_some_form (joined_form (Numbers a b) g)) (Numbers a b) tt
+left_proper TruthSet g e = if_proper (is_some_form (joined_form TruthSet g)) TruthSet tt
+left_proper (Elements k) g e = if_proper (is_some_form (joined_form (Elements k) g)) (Elements k) tt
 left_proper (Number a b) g e = absurd (true≢false (sym e))
 left_proper Truth g e = absurd (true≢false (sym e))
 left_proper (Element k) g e = absurd (true≢false (sym e))
@@ -174,11 +174,11 @@ some_if : (b : Bool) (f : Form) → b ≡ true → is_some_form (if b then Some 
 some_if true f e = refl
 some_if false f e = e
 
-pub left_of_joined : (f g : Form) → is_some_form (joined f g) ≡ true → is_some_form (left_set f g) ≡ true
+pub left_of_joined : (f g : Form) → is_some_form (joined_form f g) ≡ true → is_some_form (left_set f g) ≡ true
 left_of_joined Empty (Numbers a b) e = refl
 left_of_joined Empty TruthSet e = refl
 left_of_joined Empty (Elements k) e = refl
-left_of_joined f g e = some_if (is_some_form (joined f g)) f e
+left_of_joined f g e = some_if (is_some_form (joined_form f g)) f e
 
 pub meets_number : (a b : ℤ) (f : Form) → may_relate Equal (Number a b) f ≡ true → is_number f ≡ true
 meets_number a b (Number c d) e = refl
@@ -189,8 +189,8 @@ meets_number a b TruthSet e = e
 meets_number a b (Elements k) e = e
 meets_number a b Empty e = e
 
-pub meets_set : (f g : Form) → is_set f ≡ true → may_relate Equal f g ≡ true → is_some_form (joined f g) ≡ true
-meets_set f g s e = by_set (λ f. may_relate Equal f g ≡ true → is_some_form (joined f g) ≡ true) (λ a b e. e) (λ e. e) (λ k e. e) (λ e. e) f s e
+pub meets_set : (f g : Form) → is_set f ≡ true → may_relate Equal f g ≡ true → is_some_form (joined_form f g) ≡ true
+meets_set f g s e = by_set (λ f. may_relate Equal f g ≡ true → is_some_form (joined_form f g) ≡ true) (λ a b e. e) (λ e. e) (λ k e. e) (λ e. e) f s e
 
 set_agrees : (free : Bool) (p : Place) (g : Form → Form → Option Form) (a b : Form) → is_set a ≡ true → is_some_form (g a b) ≡ true → ProperOr (g a b) →
     Clean (size_unless free (set_form g (Some a) (Some b)) p) → Agree free (set_form g (Some a) (Some b)) (g a b)
@@ -207,7 +207,7 @@ pub right_of : (test : Form → Bool) (f : Form) (p : Place) → Clean (wrong te
 right_of test f p h = is_good (test f) 5 p h
 
 -- both are sets of one kind
-pub set_pair : (a b : Form) → is_set a ≡ true → fits is_set (Some a) (Some b) ≡ true → is_some_form (joined a b) ≡ true
+pub set_pair : (a b : Form) → is_set a ≡ true → fits is_set (Some a) (Some b) ≡ true → is_some_form (joined_form a b) ≡ true
 set_pair a b s e =
     let q = and_parts (is_set b) (not (is_set a) || may_relate Equal a b) e in
     let m : may_relate Equal a b ≡ true = rw s at q.1 in
@@ -243,8 +243,8 @@ module _ (free : Bool) (d l : Option ℤ) (i : (n : ℤ) → d ≡ Some n → l 
   of_up_to : (a b c e : ℤ) → Fine UpTo (Number a b) (Number c e)
   of_up_to a b c e x s y t v h = agree free _ _ (Numbers a e) p refl refl tt h
 
-  of_less : (f g : Form) → is_set f ≡ true → is_some_form (joined f g) ≡ true → Fine Minus f g
-  of_less f g s e = by_set (λ f. is_some_form (joined f g) ≡ true → Fine Minus f g)
+  of_less : (f g : Form) → is_set f ≡ true → is_some_form (joined_form f g) ≡ true → Fine Minus f g
+  of_less f g s e = by_set (λ f. is_some_form (joined_form f g) ≡ true → Fine Minus f g)
       (λ a b e x s y t v h. set_agrees free p left_set (Numbers a b) g refl (left_of_joined (Numbers a b) g e) (left_proper (Numbers a b) g refl) h)
       (λ e x s y t v h. set_agrees free p left_set TruthSet g refl (left_of_joined TruthSet g e) (left_proper TruthSet g refl) h)
       (λ k e x s y t v h. set_agrees free p left_set (Elements k) g refl (left_of_joined (Elements k) g e) (left_proper (Elements k) g refl) h)
@@ -270,7 +270,7 @@ module _ (free : Bool) (d l : Option ℤ) (i : (n : ℤ) → d ≡ Some n → l 
   signs_agree UpTo u f g pa pb h = of_numbers UpTo of_up_to f g (right_of is_number f pa h.0) (right_of is_number g pb h.1)
   signs_agree Union u f g pa pb h =
       let s = right_of is_set f pa h.0 in
-      λ x sf y sg v k. set_agrees free p joined f g s (set_pair f g s (is_good _ 5 pb h.1)) (joined_proper f g) k
+      λ x sf y sg v k. set_agrees free p joined_form f g s (set_pair f g s (is_good _ 5 pb h.1)) (joined_proper f g) k
   signs_agree Intersection u f g pa pb h =
       let s = right_of is_set f pa h.0 in
       λ x sf y sg v k. set_agrees free p left_set f g s (left_of_joined f g (set_pair f g s (is_good _ 5 pb h.1))) (left_proper f g s) k

@@ -16,12 +16,12 @@ use Rattle.cb_term.specs.declared.kind.Kind.{Kind}
 use Rattle.cb_term.specs.declared.kind.Kind.TheVariants as kind
 use Rattle.cb_term.specs.declared.sign.RelSign.TheVariants.{Equal}
 use Rattle.cb_term.specs.Tree.{Var}
-use Rattle.cb_spec.specs.Domains.{kind_of, typing}
+use Rattle.cb_spec.specs.Domains.{kind_of_domain, typing}
 use Rattle.cb_spec.specs.Forms.{Form, Number, Truth, Element, Numbers, TruthSet, Elements, Empty, form_of_domain, may_relate, is_some_form, is_of_kind, IsSmall}
 use Rattle.cb_spec.specs.SubstTree.{SubstTree, SubstTrees}
 use Rattle.cb_spec.specs.SubstTree as tree
 use Rattle.cb_spec.specs.TypedTerms.{Scope, IsDomain, IsChoosable, TypedAs, TypedFormula}
-use Rattle.cb_spec.specs.TypedSubsts.{kind_in, TypedSubst, TypedSides}
+use Rattle.cb_spec.specs.TypedSubsts.{kind_of_target, TypedSubst, TypedSides}
 use Rattle.cb_forms.specs.Faults.{fault_if}
 use Rattle.cb_forms.specs.Find.{found, put}
 use Rattle.cb_forms.specs.Kinds.{form_of, is_set, may_meet, size_fault}
@@ -161,7 +161,7 @@ gives x rs f q h = by (found x rs) refl h
 -- ---- targets
 
 -- a term that may meet a domain's is of the domain's kind
-meets_kind : (d : Domain) (f : Form) → may_relate Equal (form_of_domain d) f ≡ true → is_of_kind f (kind_of d) ≡ true
+pub meets_kind : (d : Domain) (f : Form) → may_relate Equal (form_of_domain d) f ≡ true → is_of_kind f (kind_of_domain d) ≡ true
 meets_kind (domain.Range lo hi) (Number a b) e = refl
 meets_kind (domain.Range lo hi) f e = absurd (true≢false (sym e))
 meets_kind domain.Truth Truth e = refl
@@ -183,9 +183,9 @@ module _ (v : View) (names : Names) (rs : Results) where
   -- the name may be assigned the form, and what is given goes on
   pub record Assigns (x : RawName) (f : Form) (after : Results) : Type 0 where
     pub leads : Leads rs after
-    pub typed : (final : Results) → Leads after final → (targets : List (Name × Kind)) → ReflectsTargets v names final targets → IsSomeAnd (kind_in targets (written x.text)) (λ k. is_of_kind f k ≡ true)
+    pub typed : (final : Results) → Leads after final → (targets : List (Name × Kind)) → ReflectsTargets v names final targets → IsSomeAnd (kind_of_target targets (written x.text)) (λ k. is_of_kind f k ≡ true)
 
-  some_kind : (targets : List (Name × Kind)) (x : RawName) (f : Form) (k : Kind) → kind_in targets (written x.text) ≡ Some k → is_of_kind f k ≡ true → IsSomeAnd (kind_in targets (written x.text)) (λ k. is_of_kind f k ≡ true)
+  some_kind : (targets : List (Name × Kind)) (x : RawName) (f : Form) (k : Kind) → kind_of_target targets (written x.text) ≡ Some k → is_of_kind f k ≡ true → IsSomeAnd (kind_of_target targets (written x.text)) (λ k. is_of_kind f k ≡ true)
   some_kind targets x f k e h = subst (λ o. IsSomeAnd o (λ k. is_of_kind f k ≡ true)) (sym e) h
 
   pub assigns : (x : RawName) (f : Form) (q : Place) → Clean (target_fault v (found x.text names) rs x (Some f) q) → Assigns x f (target_next (found x.text names) rs x (Some f) q)
@@ -204,7 +204,7 @@ module _ (v : View) (names : Names) (rs : Results) where
                 typed = λ final l targets t.
                     let d = t.variables x.text e owner form i j (eqb-true owner v.machine w) in
                     let m : may_relate Equal (form_of_domain d.0) f ≡ true = ap (λ g. may_relate Equal g f) (sym d.1.1) ∙ is_good _ 5 q h in
-                    some_kind targets x f (kind_of d.0) d.1.0 (meets_kind d.0 f m);
+                    some_kind targets x f (kind_of_domain d.0) d.1.0 (meets_kind d.0 f m);
               }
               own false w h = absurd h
           at meaning.Result j h =
@@ -213,7 +213,7 @@ module _ (v : View) (names : Names) (rs : Results) where
                 leads = g.leads;
                 typed = λ final l targets t.
                     let p = l x.text g.given g.now in
-                    let k : kind_in targets (written x.text) ≡ Some (kind_or_set p.0.kind) = t.results x.text e i j ∙ ap (λ o. Some (given_kind o)) p.1.0 in
+                    let k : kind_of_target targets (written x.text) ≡ Some (kind_or_set p.0.kind) = t.results x.text e i j ∙ ap (λ o. Some (given_kind o)) p.1.0 in
                     some_kind targets x f (kind_or_set p.0.kind) k (set_goes p.0.kind f (p.1.1 f g.fits));
               }
           at m j h = absurd h
@@ -254,7 +254,7 @@ module _ (v : View) (sizes : List ℕ) where
       let a = assigns v names rs x g.form (place_of t) h' in
       subst (λ o. Done names scope taken rs (target_next (found x.text names) rs x o (place_of t)) (tree.Assign (written x.text) (term_in v names t))) (sym g.as_judged) (record {
         leads = a.leads;
-        typed = λ final l targets w. map_some (kind_in targets (written x.text)) (λ k. is_of_kind g.form k ≡ true) (λ k. TypedAs sizes scope taken k (term_in v names t))
+        typed = λ final l targets w. map_some (kind_of_target targets (written x.text)) (λ k. is_of_kind g.form k ≡ true) (λ k. TypedAs sizes scope taken k (term_in v names t))
             (λ k e. (g.typed, subst (λ o. IsSomeAnd o (λ f. is_of_kind f k ≡ true)) (sym g.as_typed) e)) (a.typed final l targets w);
       })
 
@@ -277,7 +277,7 @@ module _ (v : View) (sizes : List ℕ) where
               i.0,
               i.1,
               typing_typed sizes scope taken k.domain k.size w.1 i.0 w.0 m,
-              map_some (kind_in targets (written x.text)) (λ j. is_of_kind (form_of_domain k.domain) j ≡ true) (λ j. TypedAs sizes ((any, form_of_domain k.domain) ∷ scope) (any ∷ taken) j (Var any))
+              map_some (kind_of_target targets (written x.text)) (λ j. is_of_kind (form_of_domain k.domain) j ≡ true) (λ j. TypedAs sizes ((any, form_of_domain k.domain) ∷ scope) (any ∷ taken) j (Var any))
                   (λ j e. (m, e)) (a.typed final l targets u),
             );
           }

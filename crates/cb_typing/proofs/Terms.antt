@@ -19,11 +19,11 @@ use Rattle.cb_lex.specs.RawTermTree as raw
 use Rattle.cb_term.specs.declared.name.Name.{Name}
 use Rattle.cb_term.specs.declared.sign.RelSign.{RelSign}
 use Rattle.cb_term.specs.declared.sign.RelSign.TheVariants.{Equal, Less, AtMost, Member, Subset}
-use Rattle.cb_term.specs.Tree.{TermTree, Var, Bound, Num, Truth, Elem, Bin, Neg, Card, Listed, Elems, Truths, Test, TermTrees, FormulaTree, Rel}
+use Rattle.cb_term.specs.Tree.{TermTree, Var, Bound, Num, Truth, Elem, Bin, Neg, Card, Listed, Elems, Truths, TermTrees, Rel}
 use Rattle.cb_term.specs.Tree as tree
 use Rattle.cb_term.specs.Values.{size_of_set}
-use Rattle.cb_spec.specs.Domains.{kind_of}
-use Rattle.cb_spec.specs.Forms.{Form, form_of_domain, joined, single, is_some_form, with_both, neg_form, card_form, may_relate, IsSmall}
+use Rattle.cb_spec.specs.Domains.{kind_of_domain}
+use Rattle.cb_spec.specs.Forms.{Form, form_of_domain, joined_form, is_some_form, may_relate, IsSmall}
 use Rattle.cb_spec.specs.Forms as form
 use Rattle.cb_spec.specs.Runs.{HasConjunct}
 use Rattle.cb_spec.specs.Domains.{typing}
@@ -38,7 +38,7 @@ use Rattle.cb_judge.specs.declared.names.Entry.{Entry}
 use Rattle.cb_judge.specs.declared.names.Meaning.{Meaning}
 use Rattle.cb_judge.specs.declared.names.Meaning.TheVariants as meaning
 use Rattle.cb_judge.specs.declared.names.View.{View}
-use Rattle.cb_judge.specs.Meanings.{Names, known_form, form_of_meaning}
+use Rattle.cb_judge.specs.Meanings.{Names, known_form, form_of_meaning, is_unformed, is_unknown}
 use Rattle.cb_judge.specs.Choices.{maxint, typing_in, choice_faults}
 use Rattle.cb_judge.specs.Judged.{place_of, literal_of, atom_form, is_up_to, size_unless, under, chosen_fault, form_in, listed_from, fault_in, fault_from, fault_of}
 use Rattle.cb_judge.specs.Judged as judged
@@ -105,24 +105,24 @@ minus_is (Num n) = by (int_eq n (neg_ℤ (pos (2 ^ 63))))
     by false = inr (n, (refl, refl))
 minus_is t = inl refl
 
-set_with_itself : (f : Form) → is_set f ≡ true → is_some_form (joined f f) ≡ true
-set_with_itself f s = by_set (λ f. is_some_form (joined f f) ≡ true) (λ a b. refl) refl (λ k. rw (eq-eqb k k refl) refl) refl f s
+set_with_itself : (f : Form) → is_set f ≡ true → is_some_form (joined_form f f) ≡ true
+set_with_itself f s = by_set (λ f. is_some_form (joined_form f f) ≡ true) (λ a b. refl) refl (λ k. rw (eq-eqb k k refl) refl) refl f s
 
-empty_joins : (r k : Form) → joined form.Empty r ≡ Some k → (r ≡ k) × IsProper k
+empty_joins : (r k : Form) → joined_form form.Empty r ≡ Some k → (r ≡ k) × IsProper k
 empty_joins (form.Numbers a b) k e = let i : form.Numbers a b ≡ k = same_Some _ _ e in (i, subst IsProper i tt)
 empty_joins form.TruthSet k e = let i : form.TruthSet ≡ k = same_Some _ _ e in (i, subst IsProper i tt)
 empty_joins (form.Elements j) k e = let i : form.Elements j ≡ k = same_Some _ _ e in (i, subst IsProper i tt)
 empty_joins form.Empty k e = let i : form.Empty ≡ k = same_Some _ _ e in (i, subst IsProper i tt)
 empty_joins r k e = let no : ⊥ = cc in absurd no
 
-joined_nothing : (f : Form) → is_set f ≡ true → joined f form.Empty ≡ Some f
-joined_nothing f s = by_set (λ f. joined f form.Empty ≡ Some f) (λ a b. refl) refl (λ k. refl) refl f s
+joined_nothing : (f : Form) → is_set f ≡ true → joined_form f form.Empty ≡ Some f
+joined_nothing f s = by_set (λ f. joined_form f form.Empty ≡ Some f) (λ a b. refl) refl (λ k. refl) refl f s
 
 abbrev SetOr : Option Form → Type 0
 SetOr None = Unit {0}
 SetOr (Some f) = is_set f ≡ true
 
-joined_set : (f g : Form) → SetOr (joined f g)
+joined_set : (f g : Form) → SetOr (joined_form f g)
 joined_set (form.Numbers a b) (form.Numbers c d) = by (int_lt b a) (int_lt d c)
   where
     by : (t u : Bool) → is_set (if t then form.Numbers c d else (if u then form.Numbers a b else form.Numbers (int_min a c) (int_max b d))) ≡ true
@@ -148,7 +148,7 @@ joined_set form.Empty (form.Elements k) = refl
 joined_set form.Empty g = tt
 joined_set f g = tt
 
-joined_is_set : (f g d : Form) → joined f g ≡ Some d → is_set d ≡ true
+joined_is_set : (f g d : Form) → joined_form f g ≡ Some d → is_set d ≡ true
 joined_is_set f g d e = subst SetOr e (joined_set f g)
 
 as_both : (o : RawOperator) (d : Option ℤ) (oa ob : Option Form) (f g : Form) (c : Option Form) → oa ≡ Some f → ob ≡ Some g → binary_form o d (Some f) (Some g) ≡ c → binary_form o d oa ob ≡ c
@@ -170,10 +170,18 @@ module _ (v : View) (sizes : List ℕ) (scope : Scope) (taken : List Name) where
   -- ---- names
 
   named_good : (inner : Scope) (on_right : Bool) (known : ℕ) (x : List ℕ) (p : Place) (o : Option Entry) → length inner ≤ 2 ^ 32 → ((e : Entry) → o ≡ Some e → Means v sizes scope inner known x e.meaning) →
-      is_none (known_form v o) ≡ false → Clean (size_fault (known_form v o) p) → Good inner on_right (known_form v o) (named known x o)
+      is_unknown v o ≡ false → Clean (size_fault (known_form v o) p) → Good inner on_right (known_form v o) (named known x o)
   named_good inner on_right known x p None l m k h = absurd (true≢false k)
-  named_good inner on_right known x p (Some e) l m k h = go e.meaning (m e refl) k h
+  named_good inner on_right known x p (Some e) l m k h = go e.meaning (m e refl) (formed e.meaning (m e refl) k) h
     where
+      left : (b : Bool) → (b && true) ≡ false → b ≡ false
+      left true e = e
+      left false e = refl
+
+      formed : (m : Meaning) → Means v sizes scope inner known x m → (is_none (form_of_meaning v m) && not (is_unformed m)) ≡ false → is_none (form_of_meaning v m) ≡ false
+      formed meaning.Unformed h k = absurd h
+      formed m h k = left (is_none (form_of_meaning v m)) k
+
       seen : (b : Bool) (f : Form) (t : TermTree) → form_of sizes scope inner t ≡ Some f → IsProper f → (HasSmallForm sizes scope inner t → TypedTerm sizes scope taken on_right inner t) →
           is_none (if b then Some f else None) ≡ false → Clean (size_fault (if b then Some f else None) p) → Good inner on_right (if b then Some f else None) t
       seen true f t e i w k h = let s = size_small f p h in record {
@@ -386,7 +394,7 @@ module _ (v : View) (sizes : List ℕ) (scope : Scope) (taken : List Name) where
   record Rest (inner : Scope) (before after : Form) (ts : TermTrees) : Type 0 where
     rest : Form
     as_typed : form_of_listed sizes scope inner ts ≡ Some rest
-    joins : joined before rest ≡ Some after
+    joins : joined_form before rest ≡ Some after
     full : IsFull rest
     typed : TypedTerms sizes scope taken inner ts
 
@@ -468,7 +476,7 @@ module _ (v : View) (sizes : List ℕ) (scope : Scope) (taken : List Name) where
           c.by.domain,
           (
             has_conjunct names inner r x d c,
-            ap (λ o. kind_of (domain_or o)) (sym c.is),
+            ap (λ o. kind_of_domain (domain_or o)) (sym c.is),
             c.fits.0,
             c.fits.1,
             is_new v names sizes scope taken inner r x.text c.new,
@@ -484,7 +492,7 @@ module _ (v : View) (sizes : List ℕ) (scope : Scope) (taken : List Name) where
           c.by.domain,
           (
             has_conjunct names inner r x f c,
-            ap (λ o. kind_of (domain_or o)) (sym c.is),
+            ap (λ o. kind_of_domain (domain_or o)) (sym c.is),
             c.fits.0,
             c.fits.1,
             is_new v names sizes scope taken inner r x.text c.new,

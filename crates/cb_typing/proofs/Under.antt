@@ -15,12 +15,12 @@ use Rattle.cb_judge.specs.declared.names.Entry.{Entry}
 use Rattle.cb_judge.specs.declared.names.Meaning.{Meaning}
 use Rattle.cb_judge.specs.declared.names.Meaning.TheVariants as meaning
 use Rattle.cb_judge.specs.declared.names.View.{View}
-use Rattle.cb_judge.specs.Meanings.{Names, double_at, double_fault}
+use Rattle.cb_judge.specs.Meanings.{Names, double_with, double_fault}
 use Rattle.cb_judge.specs.Choices.{form_or_nought}
 use Rattle.cb_judge.specs.Judged.{entry, under}
 use Rattle.cb_judge.specs.Substs.{Results, within}
-use Rattle.cb_spec.specs.Domains.{kind_of}
-use Rattle.cb_spec.specs.TypedSubsts.{kind_in}
+use Rattle.cb_spec.specs.Domains.{kind_of_domain}
+use Rattle.cb_spec.specs.TypedSubsts.{kind_of_target}
 use Rattle.cb_spec.specs.TypedTerms as typed
 use Rattle.cb_term.specs.declared.kind.Kind.{Kind}
 use Rattle.cb_term.specs.Tree.{Bound, Var}
@@ -29,7 +29,7 @@ use Rattle.cb_normal.specs.NormalSubsts.{any}
 use Rattle.cb_types.specs.NormalMachines.{given_kind}
 use Rattle.cb_typing.specs.Reflects.{IsProper, Means, IsKnown, Reflects, ReflectsTargets, Reserves}
 use Rattle.cb_typing.proofs.Clean.{Clean}
-use Rattle.cb_typing.proofs.Lookups.{bytes_tell, bytes_self, found_front, found_back, inside_new, found_last, length_last, among_parts}
+use Rattle.cb_typing.proofs.Lookups.{bytes_tell, bytes_self, found_front, found_back, beside_new, found_last, length_last, among_parts}
 use Rattle.cb_typing.proofs.Domains.{domain_form, KnowsSets, Stays}
 
 pub same_written : (x y : List ℕ) → same_name (written x) (written y) ≡ bytes_eq x y
@@ -43,9 +43,9 @@ same_written x y = by (bytes_eq x y)
 pub new_name : (names : Names) (x : RawName) → Clean (double_fault names x) → found x.text names ≡ None
 new_name names x h = by (found x.text names) h
   where
-    by : (o : Option Entry) → Clean (double_at x.place o) → o ≡ None
+    by : (o : Option Entry) → Clean (double_with names x o) → o ≡ None
     by None h = refl
-    by (Some e) h = absurd h
+    by (Some e) h = absurd h.0
 
 -- ---- among the names in use
 
@@ -108,13 +108,14 @@ module _ (v : View) (names : Names) (sizes : List ℕ) (scope : Scope) (taken : 
   means_more p k y (meaning.Element owner set index) h = h
   means_more p k y (meaning.Variable owner form) h = h
   means_more p k y (meaning.Local form) h = h
+  means_more p k y meaning.Unformed h = h
   means_more p k y m h = tt
 
   abbrev binder : RawName → Choice → Entry
   binder x c = entry (meaning.Bound (length names) (form_or_nought (Some c))) x.place
 
   pub under_is : (x : RawName) (c : Choice) → found x.text names ≡ None → under x (Some c) names ≡ names ++ (x.text, binder x c) ∷ []
-  under_is x c new = inside_new x.text (binder x c) names new
+  under_is x c new = beside_new x.text (binder x c) names new
 
   pub under_reflects : (x : RawName) (c : Choice) → found x.text names ≡ None → IsProper (form_of_domain c.domain) →
       Reflects v (under x (Some c) names) sizes scope taken ((written x.text, form_of_domain c.domain) ∷ inner)
@@ -166,24 +167,25 @@ module _ (v : View) (names : Names) (sizes : List ℕ) (scope : Scope) (taken : 
   local_entry x c = entry (meaning.Local (form_or_nought (Some c))) x.place
 
   pub within_is : (x : RawName) (c : Choice) → found x.text names ≡ None → within x (Some c) names ≡ names ++ (x.text, local_entry x c) ∷ []
-  within_is x c new = inside_new x.text (local_entry x c) names new
+  within_is x c new = beside_new x.text (local_entry x c) names new
 
   -- another name is known as before
-  other_form : (x y : List ℕ) (f : Form) → bytes_eq y x ≡ false → typed.form_in ((written x, f) ∷ scope) (written y) ≡ typed.form_in scope (written y)
+  pub other_form : (x y : List ℕ) (f : Form) → bytes_eq y x ≡ false → typed.form_in ((written x, f) ∷ scope) (written y) ≡ typed.form_in scope (written y)
   other_form x y f e = rw (same_written y x ∙ e) refl
 
-  own_form : (x : List ℕ) (f : Form) → typed.form_in ((written x, f) ∷ scope) (written x) ≡ Some f
+  pub own_form : (x : List ℕ) (f : Form) → typed.form_in ((written x, f) ∷ scope) (written x) ≡ Some f
   own_form x f = rw (same_written x x ∙ bytes_self x) refl
 
-  means_within : (x y : List ℕ) (f : Form) (k : ℕ) (m : Meaning) → bytes_eq y x ≡ false → Means v sizes scope [] k y m → Means v sizes ((written x, f) ∷ scope) [] (suc k) y m
+  pub means_within : (x y : List ℕ) (f : Form) (k : ℕ) (m : Meaning) → bytes_eq y x ≡ false → Means v sizes scope [] k y m → Means v sizes ((written x, f) ∷ scope) [] (suc k) y m
   means_within x y f k (meaning.Bound level form) e h = (omega (arith, h.0), h.1, h.2)
   means_within x y f k (meaning.Set owner set size) e h = h
   means_within x y f k (meaning.Element owner set index) e h = h
   means_within x y f k (meaning.Variable owner form) e h = λ i. let s = h i in (other_form x y f e ∙ s.0, s.1)
   means_within x y f k (meaning.Local form) e h = (other_form x y f e ∙ h.0, h.1)
+  means_within x y f k meaning.Unformed e h = h
   means_within x y f k m e h = tt
 
-  differs : (x y : List ℕ) (e : Entry) → found x names ≡ None → found y names ≡ Some e → bytes_eq y x ≡ false
+  pub differs : (x y : List ℕ) (e : Entry) → found x names ≡ None → found y names ≡ Some e → bytes_eq y x ≡ false
   differs x y e new h = by (bytes_eq y x) refl
     where
       by : (b : Bool) → bytes_eq y x ≡ b → b ≡ false
@@ -222,9 +224,9 @@ module _ (v : View) (names : Names) (sizes : List ℕ) (scope : Scope) (taken : 
   within_targets x c new given targets t =
       subst (λ ns. ReflectsTargets v ns given targets) (sym (within_is x c new)) (record {
         variables = λ y e owner form h m. of_one names x.text new (local_entry x c) (λ q. let no : ⊥ = cc in no)
-            (λ y e. e.meaning ≡ meaning.Variable owner form → owner ≡ v.machine → (d : Domain) × ((kind_in targets (written y) ≡ Some (kind_of d)) × (form_of form ≡ form_of_domain d)))
+            (λ y e. e.meaning ≡ meaning.Variable owner form → owner ≡ v.machine → (d : Domain) × ((kind_of_target targets (written y) ≡ Some (kind_of_domain d)) × (form_of form ≡ form_of_domain d)))
             (λ y e h m. t.variables y e owner form h m) (λ q. let no : ⊥ = cc in absurd no) y e h m;
         results = λ y e h m. of_one names x.text new (local_entry x c) (λ q. let no : ⊥ = cc in no)
-            (λ y e. e.meaning ≡ meaning.Result → kind_in targets (written y) ≡ Some (given_kind (found y given)))
+            (λ y e. e.meaning ≡ meaning.Result → kind_of_target targets (written y) ≡ Some (given_kind (found y given)))
             (λ y e h m. t.results y e h m) (λ q. let no : ⊥ = cc in absurd no) y e h m;
       })

@@ -7,7 +7,7 @@ use Rattle.cb_term.specs.declared.name.Name.{Name}
 use Rattle.cb_spec.specs.Forms.{Form, is_of_kind}
 use Rattle.cb_spec.specs.TypedTerms.{Scope, form_of, TypedTerm, TypedFormula}
 use Rattle.cb_spec.specs.Runs.{Fits}
-use Rattle.cb_spec.specs.TypedSubsts.{TypedSubst, always_writes, assigned, result_form}
+use Rattle.cb_spec.specs.TypedSubsts.{TypedSubst, always_writes, assigned_form, result_form}
 use Rattle.cb_forms.specs.declared.fault.Fault.{Fault}
 use Rattle.cb_forms.specs.Faults.{Faults, Occurs}
 use Rattle.cb_forms.specs.Find.{found}
@@ -62,4 +62,4 @@ SubstsAreTyped = (v : View) (names : Names) (sizes : List ℕ) (scope : Scope) (
 abbrev pub ResultsHaveKinds : Type 0
 ResultsHaveKinds = (v : View) (names : Names) (sizes : List ℕ) (scope : Scope) (taken : List Name) → Reflects v names sizes scope taken [] → Reserves names
     → (s : RawSubstTree) → subst_depth s ≤ 2 ^ 32 → NoFault (subst_fault v names [] s) → (x : List ℕ) (e : Entry) → found x names ≡ Some e → e.meaning ≡ meaning.Result
-    → is_of_kind (result_form (assigned sizes (written x) scope (subst_in v names s))) (given_kind (found x (results_after v names [] s))) ≡ true
+    → is_of_kind (result_form (assigned_form sizes (written x) scope (subst_in v names s))) (given_kind (found x (results_after v names [] s))) ≡ true

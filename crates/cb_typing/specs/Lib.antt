@@ -2,5 +2,4 @@ pub mod Depths
 pub mod Laws
 pub mod Reflects
 pub mod Sides
-pub mod WholeLaws
 pub mod WrittenText

@@ -4,8 +4,8 @@ use Rattle.cb_term.specs.declared.name.Name.{Name}
 use Rattle.cb_term.specs.declared.kind.Domain.{Domain}
 use Rattle.cb_term.specs.declared.kind.Kind.{Kind}
 use Rattle.cb_term.specs.Values.{size_of_set}
-use Rattle.cb_spec.specs.Domains.{kind_of}
-use Rattle.cb_spec.specs.TypedSubsts.{kind_in}
+use Rattle.cb_spec.specs.Domains.{kind_of_domain}
+use Rattle.cb_spec.specs.TypedSubsts.{kind_of_target}
 use Rattle.cb_spec.specs.Bound.{is_among}
 use Rattle.cb_spec.specs.Forms.{Form, Number, form_of_domain}
 use Rattle.cb_spec.specs.TypedTerms.{Scope, names_in}
@@ -41,6 +41,7 @@ module _ (v : View) (sizes : List ℕ) (scope inner : Scope) where
   Means count x (meaning.Local form) = Stands x form
   Means count x (meaning.Bound level form) =
       (level < count) × (slice_get (map (λ (p : Name × Form). p.1) inner) (count - level - 1) ≡ Some (form_of form)) × IsProper (form_of form)
+  Means count x meaning.Unformed = ⊥
   Means count x m = ⊤
 
 -- the name is there, and not as the reserved word
@@ -54,8 +55,8 @@ pub record Reflects (v : View) (names : Names) (sizes : List ℕ) (scope : Scope
 -- what may be assigned to has the kind that is judged: a variable its domain's, and a result that of what is given at the end
 pub record ReflectsTargets (v : View) (names : Names) (given : Results) (targets : List (Name × Kind)) : Type 0 where
   pub variables : (x : List ℕ) (e : Entry) (owner : ℕ) (form : Known) → found x names ≡ Some e → e.meaning ≡ meaning.Variable owner form → owner ≡ v.machine
-      → (d : Domain) × ((kind_in targets (written x) ≡ Some (kind_of d)) × (form_of form ≡ form_of_domain d))
-  pub results : (x : List ℕ) (e : Entry) → found x names ≡ Some e → e.meaning ≡ meaning.Result → kind_in targets (written x) ≡ Some (given_kind (found x given))
+      → (d : Domain) × ((kind_of_target targets (written x) ≡ Some (kind_of_domain d)) × (form_of form ≡ form_of_domain d))
+  pub results : (x : List ℕ) (e : Entry) → found x names ≡ Some e → e.meaning ≡ meaning.Result → kind_of_target targets (written x) ≡ Some (given_kind (found x given))
 
 -- the word `any` is reserved
 abbrev pub Reserves : Names → Type 0

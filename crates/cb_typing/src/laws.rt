@@ -1,7 +1,6 @@
 //! Laws of texts without a fault. Each is the contract of a function with nothing to do: a caller calls it for its fact.
 
 ghost use Rattle.cb_typing.specs.Laws.{TermsAreTyped, FormulasAreTyped, AlwaysIsAlways, SubstsFit, SubstsAreTyped, ResultsHaveKinds};
-ghost use Rattle.cb_typing.specs.WholeLaws.{GlobalNamesAreNew, WellFormedIsTyped};
 
 /// The normal form of a term without a fault is typed, and has the form that the term has.
 pub fn terms_are_typed()
@@ -31,14 +30,4 @@ pub fn substs_are_typed()
 /// What is assigned to a result is of the kind that is judged.
 pub fn results_have_kinds()
     ensures { ResultsHaveKinds }
-{}
-
-/// No global name of a text without a fault stands for two things.
-pub fn global_names_are_new()
-    ensures { GlobalNamesAreNew }
-{}
-
-/// A text without a fault is a typed system.
-pub fn well_formed_is_typed()
-    ensures { WellFormedIsTyped }
 {}

@@ -6,7 +6,8 @@ use Rattle.cb_spec.specs.declared.system.System.{System}
 use Rattle.cb_obligations.specs.Owed.{Owed, owed_of, machine_owes}
 use Rattle.cb_wp.specs.declared.limits.Which.{Which}
 use Rattle.cb_wp.specs.declared.limits.Which.TheVariants as which
-use Rattle.cb_wp.specs.Limits.{Step, count, passed, machine_steps, branches_within}
+use Rattle.cb_obligations.specs.Steps.{Step}
+use Rattle.cb_wp.specs.Limits.{count, passed, machine_steps, branches_within}
 
 -- machine by machine
 abbrev pub all_owed : List Machine → List Owed

@@ -7,9 +7,9 @@ use Rattle.cb_term.specs.declared.name.Name.{Name}
 use Rattle.cb_term.specs.declared.kind.Kind.{Kind}
 use Rattle.cb_term.specs.declared.kind.Domain.{Domain}
 use Rattle.cb_term.specs.Tree.{FormulaTree, Not}
-use Rattle.cb_spec.specs.Domains.{kind_of}
+use Rattle.cb_spec.specs.Domains.{kind_of_domain}
 use Rattle.cb_spec.specs.SubstTree.{SubstTree, Together, If, AnyOf, SubstTrees, End, More, sides_of}
-use Rattle.cb_obligations.specs.Branches.{Item, Bind, Guard, Assigned, Branch, numbered, opened, binds, guarded, bound, joined, branches_from, branches_of_each}
+use Rattle.cb_obligations.specs.Branches.{Item, Bind, Guard, Assigned, Branch, numbered, opened, binds, guarded, bound_branch, joined_branch, branches_from, branches_of_each}
 use Rattle.cb_wp.specs.Parts as begun
 use Rattle.cb_wp.specs.Parts.{branch_of, begun_of, after}
 use Rattle.cb_wp.specs.declared.branches.Begun.{Begun}
@@ -66,7 +66,7 @@ alike m n is js us vs e f g = λ i. (e i, record { items = f i; writes = g i })
 -- what is put behind a branch stands in front of those that follow it
 put_behind : (c : ℕ × Branch) (n : ℕ) (is : List Item) (f : Branch → Branch) →
     ((q : Branch) → n + binds q.items ≡ c.0 + binds (f q).items) → ((q : Branch) → (f q).items ≡ is ++ q.items) → ((q : Branch) → (f q).writes ≡ q.writes) →
-    (qs : List Branch) → follow (n, joined c.1 (record { items = is; writes = [] })) qs ≡ follow c (map f qs)
+    (qs : List Branch) → follow (n, joined_branch c.1 (record { items = is; writes = [] })) qs ≡ follow c (map f qs)
 put_behind c n is f e g h [] = refl
 put_behind c n is f e g h (q ∷ qs) =
     ap₂ (λ x xs. x ∷ xs)
@@ -78,18 +78,18 @@ put_behind c n is f e g h (q ∷ qs) =
     (put_behind c n is f e g h qs)
 
 guard_behind : (c : ℕ × Branch) (p : FormulaTree) (qs : List Branch) →
-    follow (c.0, joined c.1 (record { items = Guard p ∷ []; writes = [] })) qs ≡ follow c (map (guarded p) qs)
+    follow (c.0, joined_branch c.1 (record { items = Guard p ∷ []; writes = [] })) qs ≡ follow c (map (guarded p) qs)
 guard_behind c p qs = put_behind c c.0 (Guard p ∷ []) (guarded p) (λ q. refl) (λ q. refl) (λ q. refl) qs
 
 name_behind : (c : ℕ × Branch) (n : ℕ) (x : Name) (kind : Kind) (p : FormulaTree) → n ≡ c.0 + 1 → (qs : List Branch) →
-    follow (n, joined c.1 (record { items = Bind x kind ∷ Guard p ∷ []; writes = [] })) qs ≡ follow c (map (bound x kind p) qs)
+    follow (n, joined_branch c.1 (record { items = Bind x kind ∷ Guard p ∷ []; writes = [] })) qs ≡ follow c (map (bound_branch x kind p) qs)
 name_behind c n x kind p e qs =
-    put_behind c n (Bind x kind ∷ Guard p ∷ []) (bound x kind p) (λ q. omega (arith, e)) (λ q. refl) (λ q. refl) qs
+    put_behind c n (Bind x kind ∷ Guard p ∷ []) (bound_branch x kind p) (λ q. omega (arith, e)) (λ q. refl) (λ q. refl) qs
 
 both_follow : (c : ℕ × Branch) (qs rs : List Branch) → follow c (qs ++ rs) ≡ follow c qs ++ follow c rs
-both_follow c qs rs = map_append (λ (q : Branch). (c.0 + binds q.items, joined c.1 q)) qs rs
+both_follow c qs rs = map_append (λ (q : Branch). (c.0 + binds q.items, joined_branch c.1 q)) qs rs
 
-followed_twice : (c : ℕ × Branch) (q : Branch) (rs : List Branch) → follow (c.0 + binds q.items, joined c.1 q) rs ≡ follow c (map (joined q) rs)
+followed_twice : (c : ℕ × Branch) (q : Branch) (rs : List Branch) → follow (c.0 + binds q.items, joined_branch c.1 q) rs ≡ follow c (map (joined_branch q) rs)
 followed_twice c q [] = refl
 followed_twice c q (r ∷ rs) =
     ap₂ (λ x xs. x ∷ xs)
@@ -100,11 +100,11 @@ followed_twice c q (r ∷ rs) =
 
 -- each branch of the second side after each of the first
 sides_follow : (c : ℕ × Branch) (f : ℕ → List Branch) (qs : List Branch) →
-    flat_map (after f) (follow c qs) ≡ follow c (flat_map (λ (q : Branch). map (joined q) (f (c.0 + binds q.items))) qs)
+    flat_map (after f) (follow c qs) ≡ follow c (flat_map (λ (q : Branch). map (joined_branch q) (f (c.0 + binds q.items))) qs)
 sides_follow c f [] = refl
 sides_follow c f (q ∷ qs) =
     ap₂ (λ xs ys. xs ++ ys) (followed_twice c q (f (c.0 + binds q.items))) (sides_follow c f qs)
-    ∙ sym (both_follow c (map (joined q) (f (c.0 + binds q.items))) (flat_map (λ (q : Branch). map (joined q) (f (c.0 + binds q.items))) qs))
+    ∙ sym (both_follow c (map (joined_branch q) (f (c.0 + binds q.items))) (flat_map (λ (q : Branch). map (joined_branch q) (f (c.0 + binds q.items))) qs))
 
 -- ---- the branches by cases, behind those that are there before
 
@@ -143,16 +143,16 @@ of_if scope a b p c d e old mid new is_d is_e first second =
     ∙ ap (λ xs. old ++ xs) (sym (both_follow c (map (guarded (opened scope p)) (f c.0)) (map (guarded (Not (opened scope p))) (g c.0))))
 
 pub of_any : (scope inner : List Name) (a : SubstTree) (z : Name) (domain : Domain) (p : FormulaTree) (n : ℕ) (c d : ℕ × Branch) (old new : List (ℕ × Branch)) →
-    n ≡ c.0 + 1 → inner ≡ numbered z n ∷ scope → d ≡ begun.bound c n z (kind_of domain) (opened inner p) →
+    n ≡ c.0 + 1 → inner ≡ numbered z n ∷ scope → d ≡ begun.bound c n z (kind_of_domain domain) (opened inner p) →
     new ≡ old ++ after (λ k. branches_from k inner a) d → new ≡ old ++ after (λ k. branches_from k scope (AnyOf z domain p a)) c
 of_any scope inner a z domain p n c d old new is_n is_inner is_d all =
     let here : ℕ → List Name = λ m. numbered z m ∷ scope in
     let f : List Name → ℕ → List Branch = λ xs k. branches_from k xs a in
     all
     ∙ ap (λ xs. old ++ xs) (ap (after (f inner)) is_d
-    ∙ ap (λ xs. after (f xs) (begun.bound c n z (kind_of domain) (opened xs p))) is_inner
-    ∙ name_behind c n (numbered z n) (kind_of domain) (opened (here n) p) is_n (f (here n) n)
-    ∙ ap (λ m. follow c (map (bound (numbered z m) (kind_of domain) (opened (here m) p)) (f (here m) m))) is_n)
+    ∙ ap (λ xs. after (f xs) (begun.bound c n z (kind_of_domain domain) (opened xs p))) is_inner
+    ∙ name_behind c n (numbered z n) (kind_of_domain domain) (opened (here n) p) is_n (f (here n) n)
+    ∙ ap (λ m. follow c (map (bound_branch (numbered z m) (kind_of_domain domain) (opened (here m) p)) (f (here m) m))) is_n)
 
 pub of_none : (each : ℕ × Branch → List (ℕ × Branch)) (left all whole : List (ℕ × Branch)) → left ≡ [] → all ++ flat_map each left ≡ whole → all ≡ whole
 of_none each left all whole is so_far = sym (append-nil all) ∙ ap (λ xs. all ++ flat_map each xs) (sym is) ∙ so_far

@@ -10,7 +10,9 @@ use Rattle.cb_wp.specs.declared.limits.Which.TheVariants as which
 use Rattle.cb_wp.specs.declared.limits.MakeFault.{MakeFault}
 use Rattle.cb_wp.specs.declared.limits.MakeFault.TheVariants as fault
 use Rattle.cb_wp.specs.declared.limits.Used.{Used}
-use Rattle.cb_wp.specs.Limits.{Step, Reach, Make, steps_under, formulas_nodes, claim_nodes, Count, Passed, At, count, Faulted}
+use Rattle.cb_term.specs.Size.{term_nodes}
+use Rattle.cb_obligations.specs.Steps.{Step, Reach, Weigh, Make, steps_under}
+use Rattle.cb_wp.specs.Limits.{formulas_nodes, claim_nodes, Count, Passed, At, count, Faulted}
 
 -- what comes after the first list
 abbrev pub on : Count → List Step → Count
@@ -20,6 +22,12 @@ on (At o n) qs = count o n qs
 pub count_append : (ps qs : List Step) (o n : ℕ) → count o n (ps ++ qs) ≡ on (count o n ps) qs
 count_append [] qs o n = refl
 count_append (Reach hyps ∷ ps) qs o n = by_test (ltb 20000 (formulas_nodes hyps)) (count_append ps qs o n)
+  where
+    by_test : (a : Bool) → count o n (ps ++ qs) ≡ on (count o n ps) qs →
+        (if a then Passed which.Sequent else count o n (ps ++ qs)) ≡ on (if a then Passed which.Sequent else count o n ps) qs
+    by_test true e = refl
+    by_test false e = e
+count_append (Weigh t ∷ ps) qs o n = by_test (ltb 20000 (term_nodes t)) (count_append ps qs o n)
   where
     by_test : (a : Bool) → count o n (ps ++ qs) ≡ on (count o n ps) qs →
         (if a then Passed which.Sequent else count o n (ps ++ qs)) ≡ on (if a then Passed which.Sequent else count o n ps) qs

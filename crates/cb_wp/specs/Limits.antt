@@ -2,16 +2,15 @@
 use Rattle.std.specs.Prelude.{ℕ, ◌≡◌, ◌+◌, ltb, leb, Bool, true, ◌&&◌, List, [], ◌∷◌, ◌++◌, flat_map, Option, Some, None, if◌then◌else◌, ⊤}
 use Rattle.cb_term.specs.declared.name.Name.{Name}
 use Rattle.cb_term.specs.declared.kind.Kind.{Kind}
-use Rattle.cb_term.specs.Tree.{FormulaTree, True, And, Implies, Every}
-use Rattle.cb_term.specs.Size.{formula_nodes}
+use Rattle.cb_term.specs.Tree.{FormulaTree}
+use Rattle.cb_term.specs.Size.{term_nodes, formula_nodes}
 use Rattle.cb_seq.specs.Validity.{Claim}
 use Rattle.cb_spec.specs.declared.system.Machine.{Machine}
 use Rattle.cb_spec.specs.declared.system.Operation.{Operation}
 use Rattle.cb_spec.specs.SubstTree.{SubstTree}
-use Rattle.cb_obligations.specs.Branches.{numbered}
 use Rattle.cb_obligations.specs.Counts.{branch_count}
 use Rattle.cb_obligations.specs.Transform.{transformed, live}
-use Rattle.cb_obligations.specs.Pieces.{conjuncts, with_opened}
+use Rattle.cb_obligations.specs.Steps.{Step, Reach, Weigh, Make, steps_under}
 use Rattle.cb_obligations.specs.Owed.{with_kinds, of_operation}
 use Rattle.cb_wp.specs.declared.limits.Which.{Which}
 use Rattle.cb_wp.specs.declared.limits.Which.TheVariants as which
@@ -26,24 +25,6 @@ Tells fault.Memory first = ⊤
 
 abbrev pub branch_limit : SubstTree → Option Which
 branch_limit s = if ltb 256 (branch_count s) then Some which.Branches else None
-
--- ---- what is met on the way through a formula, in order
-
-pub data Step : Type 0 where
-  -- the hypotheses of a way, where the left side of `=>` has been added to them
-  Reach : List FormulaTree → Step
-  -- a sequent
-  Make : Claim → Step
-
--- the way of `pieces_under`
-abbrev pub steps_under : List Name → ℕ → List (Name × Kind) → List FormulaTree → FormulaTree → List Step
-steps_under ys n names hyps (And a b) = steps_under ys n names hyps a ++ steps_under ys n names hyps b
-steps_under ys n names hyps (Implies a b) =
-    Reach (hyps ++ conjuncts (with_opened ys a)) ∷ steps_under ys n names (hyps ++ conjuncts (with_opened ys a)) b
-steps_under ys n names hyps (Every x kind f) =
-    steps_under (numbered x (n + 1) ∷ ys) (n + 1) (names ++ (numbered x (n + 1), kind) ∷ []) hyps f
-steps_under ys n names hyps True = []
-steps_under ys n names hyps f = Make (record { names = names; hypotheses = hyps; goal = with_opened ys f }) ∷ []
 
 abbrev pub claim : List (Name × Kind) → List FormulaTree → FormulaTree → Claim
 claim names hyps goal = record { names = names; hypotheses = hyps; goal = goal }
@@ -65,6 +46,7 @@ pub data Count : Type 0 where
 abbrev pub count : ℕ → ℕ → List Step → Count
 count o n [] = At o n
 count o n (Reach hyps ∷ steps) = if ltb 20000 (formulas_nodes hyps) then Passed which.Sequent else count o n steps
+count o n (Weigh t ∷ steps) = if ltb 20000 (term_nodes t) then Passed which.Sequent else count o n steps
 count o n (Make q ∷ steps) =
     if leb 4096 o then Passed which.Obligations
     else (if ltb 20000 (claim_nodes q) then Passed which.Sequent

@@ -2,7 +2,7 @@
 use Rattle.std.specs.Prelude.{ℕ, ◌+◌, List, [], ◌∷◌, map}
 use Rattle.cb_term.specs.declared.name.Name.{Name}
 use Rattle.cb_term.specs.declared.kind.Kind.{Kind}
-use Rattle.cb_term.specs.Tree.{FormulaTree, And}
+use Rattle.cb_term.specs.Tree.{FormulaTree, True, And}
 use Rattle.cb_obligations.specs.Branches as spec
 use Rattle.cb_wp.specs.declared.branches.Item.{Item}
 use Rattle.cb_wp.specs.declared.branches.Item.TheVariants.{Bind, Guard}
@@ -22,17 +22,18 @@ begun_of b = (b.number, branch_of b.branch)
 
 -- the branches that `f` has at that number, each after the one begun
 abbrev pub after : (ℕ → List spec.Branch) → ℕ × spec.Branch → List (ℕ × spec.Branch)
-after f c = map (λ (q : spec.Branch). (c.0 + spec.binds q.items, spec.joined c.1 q)) (f c.0)
+after f c = map (λ (q : spec.Branch). (c.0 + spec.binds q.items, spec.joined_branch c.1 q)) (f c.0)
 
 -- the guard behind what is begun
 abbrev pub guarded : ℕ × spec.Branch → FormulaTree → ℕ × spec.Branch
-guarded c p = (c.0, spec.joined c.1 (record { items = spec.Guard p ∷ []; writes = [] }))
+guarded c p = (c.0, spec.joined_branch c.1 (record { items = spec.Guard p ∷ []; writes = [] }))
 
 -- the name, numbered n, and the guard behind it
 abbrev pub bound : ℕ × spec.Branch → ℕ → Name → Kind → FormulaTree → ℕ × spec.Branch
-bound c n x kind p = (n, spec.joined c.1 (record { items = spec.Bind (spec.numbered x n) kind ∷ spec.Guard p ∷ []; writes = [] }))
+bound c n x kind p = (n, spec.joined_branch c.1 (record { items = spec.Bind (spec.numbered x n) kind ∷ spec.Guard p ∷ []; writes = [] }))
 
--- the formulas' conjunction with `f` at its end, grouped to the right
-abbrev pub and_onto : List FormulaTree → FormulaTree → FormulaTree
-and_onto [] f = f
-and_onto (g ∷ gs) f = And g (and_onto gs f)
+-- the formulas' conjunction, grouped to the right
+abbrev pub conjunction : List FormulaTree → FormulaTree
+conjunction [] = True
+conjunction (g ∷ []) = g
+conjunction (g ∷ h ∷ gs) = And g (conjunction (h ∷ gs))

@@ -95,7 +95,7 @@ impl Branch {
 
 impl Begun {
     fn writing(self, target: Name, value: Term) -> Result<Begun, Memory>
-        ensures { IfOk result (λ b. begun_of b ≡ (self.number, spec.joined (branch_of self.branch) (record { items = []; writes = (target, value) ∷ [] }))) }
+        ensures { IfOk result (λ b. begun_of b ≡ (self.number, spec.joined_branch (branch_of self.branch) (record { items = []; writes = (target, value) ∷ [] }))) }
     {
         let Begun { mut branch, number } = self;
         branch.writes.push((target, value))?;
@@ -112,7 +112,7 @@ impl Begun {
 
     // The name is numbered by what is bound with it.
     fn binding(self, name: Name, kind: Kind) -> Result<Begun, Memory>
-        ensures { IfOk result (λ b. begun_of b ≡ (name.number, spec.joined (branch_of self.branch) (record { items = spec.Bind name kind ∷ []; writes = [] }))) }
+        ensures { IfOk result (λ b. begun_of b ≡ (name.number, spec.joined_branch (branch_of self.branch) (record { items = spec.Bind name kind ∷ []; writes = [] }))) }
     {
         let Begun { mut branch, .. } = self;
         let number = name.number;
@@ -133,7 +133,7 @@ impl Begun {
 
 /// The kind of the domain's values.
 pub fn kind_of(domain: Domain) -> Kind
-    ensures { result ≡ domains.kind_of domain }
+    ensures { result ≡ domains.kind_of_domain domain }
 {
     match domain {
         Domain::Range { .. } => Kind::Integer,
@@ -251,7 +251,7 @@ fn bound(
     number: u32,
     inner: &[Name],
 ) -> Result<Begun, Memory>
-    ensures { IfOk result (λ b. begun_of b ≡ bound (begun_of begun) number name.now (domains.kind_of domain) (spec.opened inner.now test.now)) }
+    ensures { IfOk result (λ b. begun_of b ≡ bound (begun_of begun) number name.now (domains.kind_of_domain domain) (spec.opened inner.now test.now)) }
 {
     let name = numbered(alloc, name, number)?;
     let binding = begun.binding(name, kind_of(domain))?;

@@ -10,7 +10,8 @@ ghost use Rattle.cb_obligations.specs.Pieces as pieces;
 ghost use Rattle.cb_obligations.specs.Owed as owed;
 ghost use Rattle.cb_obligations.specs.Owed.{owed_of, named};
 ghost use Rattle.cb_wp.specs.Limits as limits;
-ghost use Rattle.cb_wp.specs.Limits.{Tells, Counted, Faulted, steps_under, formula_steps, init_steps, operation_steps, machine_steps, first_limit};
+ghost use Rattle.cb_obligations.specs.Steps.{steps_under};
+ghost use Rattle.cb_wp.specs.Limits.{Tells, Counted, Faulted, formula_steps, init_steps, operation_steps, machine_steps, first_limit};
 ghost use Rattle.cb_spec.specs.declared.system.Operation.{Operation};
 
 use crate::branches::{branch_count, kind_of, with_first};
@@ -88,7 +89,7 @@ fn for_all(
 
 // `!x.(F)`, x being the declared name.
 fn for_each(alloc: Global, declared: &Declared, body: Formula) -> Result<Formula, Memory>
-    ensures { IfOk result (λ f. f ≡ tree.Every declared.now.name (domains.kind_of declared.now.domain) body) }
+    ensures { IfOk result (λ f. f ≡ tree.Every declared.now.name (domains.kind_of_domain declared.now.domain) body) }
 {
     let name = declared.name.copy(alloc)?;
     Formula::every(alloc, name, kind_of(declared.domain), body)

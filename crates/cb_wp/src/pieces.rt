@@ -6,7 +6,8 @@ ghost use Rattle.cb_seq.specs.Validity.{claim_of};
 ghost use Rattle.cb_obligations.specs.Branches.{numbered};
 ghost use Rattle.cb_obligations.specs.Pieces as spec;
 ghost use Rattle.cb_obligations.specs.Pieces.{pieces_under};
-ghost use Rattle.cb_wp.specs.Limits.{formulas_nodes, steps_under, count, passed, Counted, Faulted, Tells};
+ghost use Rattle.cb_obligations.specs.Steps.{steps_under};
+ghost use Rattle.cb_wp.specs.Limits.{formulas_nodes, count, passed, Counted, Faulted, Tells};
 
 use crate::changes::{next, put};
 use crate::limits::{MakeFault, Used, Which};

@@ -3,7 +3,8 @@
 ghost use Rattle.std.specs.Prelude.{◌≡◌, ◌+◌, ◌-◌, ◌^◌, ◌++◌, ◌∷◌, [], min, IfOk, OnOk, IfErr, map};
 ghost use Rattle.cb_seq.specs.Validity.{claim_of};
 ghost use Rattle.cb_obligations.specs.Pieces as pieces;
-ghost use Rattle.cb_wp.specs.Limits.{claim, formulas_nodes, Make, Counted, Faulted};
+ghost use Rattle.cb_obligations.specs.Steps.{Make};
+ghost use Rattle.cb_wp.specs.Limits.{claim, formulas_nodes, Counted, Faulted};
 
 use crate::changes::{Freed, put};
 use crate::limits::{MakeFault, Used, Which};

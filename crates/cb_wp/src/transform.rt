@@ -9,7 +9,7 @@ ghost use Rattle.cb_spec.specs.SubstTree.{sides_of};
 ghost use Rattle.cb_obligations.specs.Branches.{numbered};
 ghost use Rattle.cb_obligations.specs.Laws.{TransformIsRight, LiveIsRight};
 ghost use Rattle.cb_obligations.specs.Transform as spec;
-ghost use Rattle.cb_wp.specs.Parts.{item_of, branch_of, and_onto};
+ghost use Rattle.cb_wp.specs.Parts.{item_of, branch_of, conjunction};
 ghost use Rattle.cb_wp.specs.Limits.{Tells, branch_limit};
 
 use crate::branches::{Branch, Item, all_branches, branch_count, kind_of, with_first};
@@ -219,13 +219,15 @@ fn is_choice(
     }
 }
 
-#[tactic(auto, using(crate::proofs::LiveLemmas::and_onto_last))]
-// The formulas' conjunction, grouped to the right, with `btrue` at its end.
+#[tactic(auto, using(crate::proofs::LiveLemmas::and_onto_last, crate::proofs::LiveLemmas::and_onto_is))]
+// The formulas' conjunction, grouped to the right; without any, `btrue`.
 fn and_all(alloc: Global, formulas: Items<Formula>) -> Result<Formula, Memory>
-    ensures { IfOk result (λ f. f ≡ and_onto formulas tree.True) }
+    ensures { IfOk result (λ f. f ≡ conjunction formulas) }
 {
     let mut left = formulas;
-    let mut whole = Formula::btrue();
+    let Some(mut whole) = left.pop() else {
+        return Ok(Formula::btrue());
+    };
     while let Some(last) = left.pop() {
         whole = Formula::and(alloc, last, whole)?;
     }
@@ -380,7 +382,7 @@ fn live_any(
     test: &Formula,
     body: &Subst,
 ) -> Result<Formula, Memory>
-    ensures { IfOk result (λ f. f ≡ (if spec.is_choice name.now domain test.now body.now then tree.True else tree.And (tree.Exist name.now (domains.kind_of domain) (spec.closed_over (name.now ∷ bound.now) test.now)) (tree.Every name.now (domains.kind_of domain) (tree.Implies (spec.closed_over (name.now ∷ bound.now) test.now) (spec.live_under (name.now ∷ bound.now) body.now))))) }
+    ensures { IfOk result (λ f. f ≡ (if spec.is_choice name.now domain test.now body.now then tree.True else tree.And (tree.Exist name.now (domains.kind_of_domain domain) (spec.closed_over (name.now ∷ bound.now) test.now)) (tree.Every name.now (domains.kind_of_domain domain) (tree.Implies (spec.closed_over (name.now ∷ bound.now) test.now) (spec.live_under (name.now ∷ bound.now) body.now))))) }
 {
     if is_choice(alloc, name, domain, test, body)? {
         return Ok(Formula::btrue());

@@ -5,3 +5,7 @@ pub mod Steps
 pub mod Operations
 pub mod Texts
 pub mod Units
+mod Standing
+mod Expanding
+mod Lines
+mod ProofLines

@@ -2,3 +2,8 @@ pub mod Substitutions
 pub mod Texts
 pub mod Processes
 pub mod Units
+pub mod Shapes
+pub mod Machines
+pub mod Controllers
+pub mod Terms
+pub mod Proofs

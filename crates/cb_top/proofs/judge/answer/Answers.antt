@@ -9,6 +9,11 @@ unread_line-requires g c =
     simp length-map at within
 
 pub returns-in_ok-judge_bytes-in-Ok-clause-outcome : goal.returns-in_ok-judge_bytes-in-Ok-clause-outcome
-returns-in_ok-judge_bytes-in-Ok-clause-outcome g c = λ contents told.
+returns-in_ok-judge_bytes-in-Ok-clause-outcome g c =
+    let read = c.in-Ok.ensures.bytes in
     let P : List ℕ → Type 0 = λ bytes. IsOutcome c.args.request.now bytes (answer_of c.in_ok-judge_bytes-in-Ok.field-0) in
-    subst P (c.deref.ensures.value ∙ c.in-Ok.ensures.bytes contents told) c.in_ok-judge_bytes-in-Ok.ensures
+    record { contents = read.0; agree = read.1; outcome = subst P (c.deref.ensures.value ∙ read.2) c.in_ok-judge_bytes-in-Ok.ensures }
+
+pub returns-in_ok-unread_line-in-Err-Failed-clause-unread : goal.returns-in_ok-unread_line-in-Err-Failed-clause-unread
+returns-in_ok-unread_line-in-Err-Failed-clause-unread g c =
+    (c.in-Err-Failed.i, c.in-Err-Failed.ensures.failed c.in-Err-Failed.i (cc), c.in_ok-unread_line-in-Err-Failed.ensures)

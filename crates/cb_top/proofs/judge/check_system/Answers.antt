@@ -15,9 +15,9 @@ returns-in-Err-Limit c =
 pub returns-in-Err-UnknownProof : goal.returns-in-Err-UnknownProof
 returns-in-Err-UnknownProof c =
     let w = rw c.in-Err-UnknownProof.field-0-is at c.in-Err-UnknownProof.ensures.fault in
-    IfOk-weaker c.proof_fault.result _ _ (λ o a files. answered c.args.system c.requires w.within w.owed w.are_owed (wrong_proof _ w.wrong a)) c.proof_fault.ensures.answer
+    IfOk-weaker c.proof_fault.result _ _ (λ o a files. answered c.args.system c.requires w.within w.owed w.are_owed (wrong_proof _ w.wrong a)) c.proof_fault.ensures
 
 pub returns-in-Err-DoubleProof : goal.returns-in-Err-DoubleProof
 returns-in-Err-DoubleProof c =
     let w = rw c.in-Err-DoubleProof.field-0-is at c.in-Err-DoubleProof.ensures.fault in
-    IfOk-weaker c.proof_fault-in-Err-DoubleProof.result _ _ (λ o a files. answered c.args.system c.requires w.within w.owed w.are_owed (wrong_proof _ w.wrong a)) c.proof_fault-in-Err-DoubleProof.ensures.answer
+    IfOk-weaker c.proof_fault-in-Err-DoubleProof.result _ _ (λ o a files. answered c.args.system c.requires w.within w.owed w.are_owed (wrong_proof _ w.wrong a)) c.proof_fault-in-Err-DoubleProof.ensures

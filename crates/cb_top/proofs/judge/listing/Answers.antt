@@ -1,7 +1,8 @@
 use Rattle.std.proofs.Common.{refl}
+use Rattle.std.proofs.lemmas.Result.{IfOk-weaker}
 use Rattle.cb_verdicts.specs.Proofs.{keys_of}
 use Rattle.cb_top.specs.Outcome.{wrong_proof, right_proofs}
-use Rattle.cb_top.proofs.Wrongs.{wrong_told, both}
+use Rattle.cb_top.proofs.Wrongs.{wrong_told}
 use Rattle.cb_top.proofs.judge.listing.Goals as goal
 
 pub returns-in-Ok : goal.returns-in-Ok
@@ -9,5 +10,6 @@ returns-in-Ok c = λ files. right_proofs c.in-Ok.ensures.fine (rw c.in_ok-listin
 
 pub returns : goal.returns
 returns c =
-    both c.proof_fault.result _ _ _ c.proof_fault.ensures.answer c.proof_fault.ensures.wrong
-    (λ o a w files. wrong_proof c.in-Err.wrong (wrong_told (keys_of c.args.list.now) c.args.proofs.now c.in-Err.wrong w c.in-Err.ensures.fault) a)
+    IfOk-weaker c.proof_fault.result _ _
+    (λ o a files. wrong_proof c.in-Err.wrong (wrong_told (keys_of c.args.list.now) c.args.proofs.now c.in-Err.wrong _ a c.in-Err.ensures.fault) a)
+    c.proof_fault.ensures

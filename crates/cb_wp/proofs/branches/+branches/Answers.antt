@@ -4,7 +4,7 @@ use Rattle.std.proofs.lemmas.Result.{on_ok_weaker}
 use Rattle.cb_obligations.specs.Branches.{opened, branches_from, branches_of_each}
 use Rattle.cb_term.specs.declared.name.Name.{Name}
 use Rattle.cb_wp.specs.declared.branches.Begun.{Begun}
-use Rattle.cb_spec.specs.Domains.{kind_of}
+use Rattle.cb_spec.specs.Domains.{kind_of_domain}
 use Rattle.cb_wp.specs.Parts.{begun_of, after, guarded, bound}
 use Rattle.cb_wp.proofs.LiveLemmas.{side_nodes}
 use Rattle.cb_wp.proofs.BranchLemmas.{of_together, of_if, of_any, no_side_left}
@@ -50,5 +50,5 @@ add_any-returns t c =
     c.in_ok-number.ensures
     c.in_ok-inner.ensures
     (c.in_ok-inside.ensures
-    ∙ ap (λ xs. bound (begun_of c.args.begun) c.in_ok-number.number c.args.name.now (kind_of c.args.domain) (opened xs c.args.test.now)) c.as_slice.ensures))
+    ∙ ap (λ xs. bound (begun_of c.args.begun) c.in_ok-number.number c.args.name.now (kind_of_domain c.args.domain) (opened xs c.args.test.now)) c.as_slice.ensures))
     written

@@ -4,7 +4,8 @@ use Rattle.std.proofs.lemmas.Grind.{common_steps}
 use Rattle.cb_term.proofs.Steps.{drop_step}
 use Rattle.cb_spec.specs.declared.system.Operation.{Operation}
 use Rattle.cb_obligations.specs.Owed.{Owed, owed_of, operation_owes}
-use Rattle.cb_wp.specs.Limits.{Step, operation_steps, count, Faulted}
+use Rattle.cb_obligations.specs.Steps.{Step}
+use Rattle.cb_wp.specs.Limits.{operation_steps, count, Faulted}
 use Rattle.cb_wp.proofs.CountLemmas.{count_step, list_step, fault_step, nothing_left}
 use Rattle.cb_wp.proofs.machine.add_operations.Goals as goal
 

@@ -1,7 +1,8 @@
 use Rattle.std.proofs.Common.{◌≡◌, ◌++◌, List, drop, map, flat_map}
 use Rattle.cb_spec.specs.declared.system.Operation.{Operation}
 use Rattle.cb_obligations.specs.Owed.{Owed, owed_of, operation_owes}
-use Rattle.cb_wp.specs.Limits.{Step, operation_steps, count}
+use Rattle.cb_obligations.specs.Steps.{Step}
+use Rattle.cb_wp.specs.Limits.{operation_steps, count}
 use Rattle.cb_wp.proofs.machine.add_operations.Given as goal
 
 abbrev pub invariant-loop-operation : goal.invariant-loop-operation

@@ -1,5 +1,5 @@
 use Rattle.std.proofs.Common.{◌≡◌, length}
-use Rattle.cb_wp.specs.Parts.{and_onto}
+use Rattle.cb_wp.proofs.LiveLemmas.{and_onto}
 use Rattle.cb_wp.proofs.transform.and_all.Given as goal
 
 abbrev pub invariant-loop-last : goal.invariant-loop-last

@@ -1,0 +1,14 @@
+pub mod Owning
+pub mod Speaking
+pub mod Arguing
+pub mod Replacing
+pub mod Called
+pub mod OwnNames
+pub mod Owed
+pub mod Whole
+pub mod ShortLists
+pub mod Numbers
+pub mod Tickets
+pub mod TicketsRun
+pub mod Dice
+pub mod DiceRun

@@ -1,0 +1,2 @@
+pub mod UserSteps
+pub mod Walks

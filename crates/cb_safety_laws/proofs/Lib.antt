@@ -1,0 +1,11 @@
+pub mod Lists
+pub mod Agreement
+pub mod Forms
+pub mod Parts
+pub mod Begin
+pub mod Safety
+pub mod Runs
+pub mod Frame
+pub mod Resolving
+pub mod Steps
+pub mod Scans

@@ -1,8 +1,0 @@
-use Rattle.cb_top.proofs.Safety.{accepted_safe}
-use Rattle.cb_top.proofs.laws.accepted_is_safe.Goals as goal
-
-pub returns : goal.returns
-returns c =
-    accepted_safe c.derived_is_valid.ensures c.derives_without_bad.ensures c.typed_machines_owe_kinded.ensures c.typed_machines_fit.ensures
-    c.typed_machines_keep_kinds.ensures c.obligations_suffice.ensures c.sound_is_safe.ensures c.spelled_is_written.ensures
-    c.tokens_are_bytes.ensures c.well_formed_is_typed.ensures
