@@ -1,2 +1,4 @@
 pub mod Fronts
+pub mod Kept
+pub mod Listed
 pub mod Steps

@@ -1,1 +1,4 @@
 pub mod Given
+pub mod Heads
+pub mod SameDefinitions
+pub mod Sets

@@ -4,4 +4,5 @@
 pub mod arguments;
 pub mod channel;
 pub mod definition;
+mod parameters;
 pub mod start;

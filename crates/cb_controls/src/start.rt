@@ -1,17 +1,23 @@
 //! Arguments of START.
 
-ghost use Rattle.std.specs.Prelude.{◌≡◌, not};
+ghost use Rattle.std.specs.Prelude.{◌≡◌, IfOk, OnOk, not};
 ghost use Rattle.cb_forms.specs.Faults.{fault_if, first};
+ghost use Rattle.cb_forms.specs.Find.{found};
 ghost use Rattle.cb_judge.specs.Judged.{place_of};
 ghost use Rattle.cb_lex.specs.RawTermTree as raw;
 ghost use Rattle.cb_text_laws.specs.ControllerFaults as spec;
 
+use crate::arguments::arguments_fault;
+use crate::definition::Definitions;
 use cb_forms::fault::{Fault, earlier, when};
 use cb_forms::table::Table;
 use cb_judge::judge::place;
-use cb_judge::names::{Entry, Meaning};
+use cb_judge::names::{Entry, Meaning, View};
+use cb_lex::Memory;
+use cb_lex::raw::event::RawCall;
 use cb_lex::raw::sign::RawAtom;
 use cb_lex::raw::term::{RawTerm, RawTermNode};
+use std::alloc::Global;
 
 fn is_value_meaning(meaning: &Meaning) -> bool
     ensures { result ≡ spec.is_value_meaning meaning.now }
@@ -92,4 +98,39 @@ pub fn plain_fault(names: &Table<Entry>, arguments: &[RawTerm]) -> Option<Fault>
         fault = earlier(fault, argument_fault(names, argument));
     }
     fault
+}
+
+// The fault of a call of no definition, or with another number of arguments.
+fn start_count_fault(definitions: &Definitions, call: &RawCall) -> Option<Fault>
+    ensures { result ≡ first (spec.start_count_fault call.now (found call.now.name.text definitions.now)) }
+{
+    let name = call.name.text.as_slice();
+    let place = call.name.place;
+    match definitions.number(name) {
+        None => when(true, 2, place),
+        Some(_) => when(
+            call.arguments.len() != definitions.parameters(name).len(),
+            22,
+            place,
+        ),
+    }
+}
+
+/// The first fault of the call after START: of no definition, with another number of arguments, or with arguments that don't fit or are
+/// not plain.
+pub fn start_fault(
+    alloc: Global,
+    view: &View,
+    names: &mut Table<Entry>,
+    definitions: &Definitions,
+    call: &RawCall,
+) -> Result<Option<Fault>, Memory>
+    ensures fault { IfOk result (λ f. f ≡ first (spec.start_fault view.now names.old definitions.now call.now)) }
+    ensures kept { OnOk result (names.new ≡ names.old) }
+{
+    let count = start_count_fault(definitions, call);
+    let forms = definitions.parameters(call.name.text.as_slice());
+    let arguments = call.arguments.as_slice();
+    let given = arguments_fault(alloc, view, names, forms, arguments)?;
+    Ok(earlier(count, earlier(given, plain_fault(names, arguments))))
 }

@@ -37,7 +37,7 @@ use Rattle.cb_amn_parse.specs.Processes.{text_out}
 use Rattle.cb_amn_parse.specs.Spelling.{IsSpelled}
 use Rattle.cb_verdicts.specs.declared.places.ProofFault.{ProofFault}
 use Rattle.cb_verdicts.specs.declared.places.ProofFault.TheVariants as wrong
-use Rattle.cb_top.specs.Outcome.{Answer, too_long, lexical, cut, refused_text, refused_proofs, spelled, IsJudged, unbuilt, ill, limited, answered, wrong_proof, right_proofs, open_status, IsLexicalAnswer, IsSyntaxAnswer, IsProofAnswer, SpellsText, SpellsProofs}
+use Rattle.cb_top.specs.Outcome.{Answer, too_long, lexical, cut, refused_text, refused_proofs, spelled, IsJudged, unbuilt, ill_whole, ill, limited, answered, wrong_proof, right_proofs, open_status, IsLexicalAnswer, IsSyntaxAnswer, IsProofAnswer, SpellsText, SpellsProofs}
 use Rattle.cb_lex.specs.Lexes.{Lexes, start}
 use Rattle.cb_lex.specs.declared.raw.text.RawText.{RawText}
 use Rattle.cb_lex.specs.declared.token.Token.{Token}
@@ -132,7 +132,8 @@ module _ (valid : DerivedIsValid) (no_bad : DerivesWithoutBad) (kinded : TypedMa
 
   judged_accepted : (files : List (List ℕ)) (bytes : List ℕ) → length bytes ≤ MAX_BYTES → (tokens : List Token) → Lexes bytes start (Ok tokens) → (at : ℕ) (t : RawText) → SpellsText tokens at t →
       (ps : List RawProof) → SpellsProofs tokens at ps → (answer : Answer) → IsJudged (request.Check files) t ps answer → answer.status ≡ 0 → Accepted bytes
-  judged_accepted files bytes fits tokens cuts at t spells ps proves answer (unbuilt n e) s = absurd (omega (arith, status_of e s))
+  judged_accepted files bytes fits tokens cuts at t spells ps proves answer (unbuilt n h e) s = absurd (omega (arith, status_of e s))
+  judged_accepted files bytes fits tokens cuts at t spells ps proves answer (ill_whole n f h e) s = absurd (omega (arith, status_of e s))
   judged_accepted files bytes fits tokens cuts at t spells ps proves answer (ill j f h e) s = absurd (omega (arith, status_of e s))
   judged_accepted files bytes fits tokens cuts at t spells ps proves answer (limited y w l h e) s = absurd (omega (arith, status_of e s))
   judged_accepted files bytes fits tokens cuts at t spells ps proves answer (answered y w n os owed (wrong_proof f h e)) s = absurd (not_proof f answer e s)

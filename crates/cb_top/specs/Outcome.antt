@@ -19,6 +19,7 @@ use Rattle.cb_amn_parse.specs.Spelling.{SpellsFrom}
 use Rattle.cb_forms.specs.declared.fault.Fault.{Fault}
 use Rattle.cb_spec.specs.declared.system.System.{System}
 use Rattle.cb_types.specs.Whole.{WellFormed, FirstFault, IsSystemOf}
+use Rattle.cb_text_laws.specs.WholeText as whole
 use Rattle.cb_seq.specs.declared.sequent.ObName.{ObName}
 use Rattle.cb_seq.specs.declared.sequent.Obligation.{Obligation}
 use Rattle.cb_wp.specs.declared.limits.Which.{Which}
@@ -99,14 +100,16 @@ IsSyntaxAnswer (syntax.Mixed place) answer = answer ≡ ill_formed (codes "Mixed
 IsSyntaxAnswer (syntax.Deep place) answer = answer ≡ ill_formed (codes "Deep ") (place_text place)
 IsSyntaxAnswer syntax.Memory answer = ⊥
 
--- ---- texts of machines
+-- ---- faults of texts
 
--- the names of the codes that a text of machines may have
+-- the names of the codes
 abbrev pub code_names : List (ℕ × List ℕ)
 code_names =
     (1, codes "DoubleName") ∷ (2, codes "UnknownName") ∷ (3, codes "NoDomain") ∷ (4, codes "DoubleDomain") ∷ (5, codes "KindClash")
     ∷ (6, codes "TooWide") ∷ (7, codes "BadDivisor") ∷ (8, codes "SharedWrite") ∷ (9, codes "MissingResult") ∷ (10, codes "DoubleResult")
-    ∷ (11, codes "BigDomain") ∷ (12, codes "BigSet") ∷ (22, codes "ArgCount") ∷ []
+    ∷ (11, codes "BigDomain") ∷ (12, codes "BigSet") ∷ (13, codes "NotLater") ∷ (14, codes "BadOperand") ∷ (15, codes "NoSender")
+    ∷ (16, codes "TwoSenders") ∷ (17, codes "NoReceiver") ∷ (18, codes "TwoReceivers") ∷ (19, codes "SelfChannel") ∷ (20, codes "MachineShared")
+    ∷ (21, codes "MachineUnowned") ∷ (22, codes "ArgCount") ∷ (23, codes "TooManySilent") ∷ (24, codes "BadStart") ∷ []
 
 abbrev pub name_in : List (ℕ × List ℕ) → ℕ → List ℕ
 name_in [] k = []
@@ -154,7 +157,7 @@ pub data IsAnswered (asked : Request) (y : System) (os : List Obligation) (ps : 
   wrong_proof : (f : ProofFault) → first_wrong (keys_of os) [] ps ≡ Some f → IsProofAnswer f answer → IsAnswered asked y os ps answer
   right_proofs : first_wrong (keys_of os) [] ps ≡ None → IsAnswer asked y os ps answer → IsAnswered asked y os ps answer
 
--- what is judged: a text of machines alone
+-- the obligations of a text of machines alone are built
 abbrev pub IsJudgeable : RawText → Type 0
 IsJudgeable t = t.order ≡ None
 
@@ -164,9 +167,10 @@ pub record IsWell (t : RawText) (y : System) : Type 0 where
   pub well_formed : WellFormed t.machines
   pub system : IsSystemOf t.machines y
 
--- what may be answered on a text with its proofs
+-- what may be answered on a text with its proofs. The obligations of a text with controllers are not built
 pub data IsJudged (asked : Request) (t : RawText) (ps : List RawProof) (answer : Answer) : Type 0 where
-  unbuilt : (IsJudgeable t → ⊥) → answer ≡ ill_formed (codes "Form") [] → IsJudged asked t ps answer
+  unbuilt : (IsJudgeable t → ⊥) → whole.WellFormed t → answer ≡ ill_formed (codes "Form") [] → IsJudged asked t ps answer
+  ill_whole : (IsJudgeable t → ⊥) → (f : Fault) → whole.FirstFault t f → answer ≡ ill_answer f → IsJudged asked t ps answer
   ill : IsJudgeable t → (f : Fault) → FirstFault t.machines f → answer ≡ ill_answer f → IsJudged asked t ps answer
   limited : (y : System) → IsWell t y → (w : Which) → first_limit y.machines ≡ Some w → answer ≡ limit_answer (which_word w) → IsJudged asked t ps answer
   answered : (y : System) → IsWell t y → first_limit y.machines ≡ None → (os : List Obligation) → AreOwed y os → IsAnswered asked y os ps answer →

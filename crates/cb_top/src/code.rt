@@ -5,7 +5,7 @@ ghost use Rattle.cb_top.specs.Outcome.{code_names, name_in, which_word as word_o
 
 use cb_wp::limits::Which;
 
-/// The name of a code that a text of machines may have.
+/// The name of a code.
 pub(crate) fn code_name(code: u8) -> &'static [u8]
     ensures { result.now ≡ name_in code_names code }
 {
@@ -33,8 +33,30 @@ pub(crate) fn code_name(code: u8) -> &'static [u8]
         b"BigDomain"
     } else if code == 12 {
         b"BigSet"
+    } else if code == 13 {
+        b"NotLater"
+    } else if code == 14 {
+        b"BadOperand"
+    } else if code == 15 {
+        b"NoSender"
+    } else if code == 16 {
+        b"TwoSenders"
+    } else if code == 17 {
+        b"NoReceiver"
+    } else if code == 18 {
+        b"TwoReceivers"
+    } else if code == 19 {
+        b"SelfChannel"
+    } else if code == 20 {
+        b"MachineShared"
+    } else if code == 21 {
+        b"MachineUnowned"
     } else if code == 22 {
         b"ArgCount"
+    } else if code == 23 {
+        b"TooManySilent"
+    } else if code == 24 {
+        b"BadStart"
     } else {
         b""
     }

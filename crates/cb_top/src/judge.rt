@@ -1,10 +1,12 @@
 //! What a request answers on the bytes of its files.
 ghost use Rattle.std.specs.Prelude.{◌≡◌, ℕ, ◌≤◌, ◌<◌, List, [], length, map, string_bytes, IfOk, IfErr, slice_index_or};
 ghost use Rattle.cb_edge.specs.Edge.{StaysSure};
+ghost use Rattle.cb_lex.specs.declared.raw.proof.RawProof.{RawProof};
+ghost use Rattle.cb_words.specs.declared.request.Request.{Request as Asked};
 ghost use Rattle.cb_top.specs.Change.{sources};
 ghost use Rattle.cb_top.specs.Stop.{HasFileCause};
 ghost use Rattle.cb_words.specs.declared.request.Request.TheVariants as request;
-ghost use Rattle.cb_top.specs.Outcome.{answer_of, ill_formed, ill_answer, limit_answer, verdict_answer, place_text, IsSyntaxAnswer, IsProofAnswer, IsWell, SpellsText, IsAnswered, IsJudged, IsReadAndJudged, IsOutcome, IsOutcomeOf, read_line};
+ghost use Rattle.cb_top.specs.Outcome.{answer_of, ill_formed, ill_answer, limit_answer, verdict_answer, place_text, IsSyntaxAnswer, IsProofAnswer, IsJudgeable, IsWell, SpellsText, IsAnswered, IsJudged, IsReadAndJudged, IsOutcome, IsOutcomeOf, read_line};
 
 use crate::MAX_BYTES;
 use crate::code::{code_name, which_word};
@@ -20,6 +22,7 @@ use cb_lex::raw::text::RawText;
 use cb_lex::token::{Place, Token};
 use cb_seq::sequent::{ObName, Obligation};
 use cb_spec::system::System;
+use cb_texts::whole::text_fault;
 use cb_trace::listing::listing_text;
 use cb_trace::verdict::{Verdict, open_count, verdict_text};
 use cb_types::well_formed::{IllFormed, well_formed};
@@ -131,14 +134,25 @@ fn judge_text(
 ) -> Result<Outcome, AllocError>
     ensures { IfOk result (λ o. IsJudged request.now text.now proofs.now (answer_of o)) }
 {
-    // Texts with controllers aren't judged yet.
     if text.order.is_some() {
-        return fault(alloc, b"Form", b"");
+        return judge_whole(alloc, text);
     }
     match well_formed(alloc, text) {
         Ok(system) => judge_system(alloc, request, text, system, proofs),
         Err(IllFormed::Fault { code, place }) => coded_fault(alloc, code, place),
         Err(IllFormed::Memory) => Err(AllocError),
+    }
+}
+
+// The outcome of a text with controllers, whose obligations aren't built.
+fn judge_whole(alloc: Global, text: &RawText) -> Result<Outcome, AllocError>
+    requires { IsJudgeable text.now → ⊥ }
+    ensures { IfOk result (λ o. (asked : Asked) (ps : List RawProof) → IsJudged asked text.now ps (answer_of o)) }
+{
+    let first = text_fault(alloc, text)?;
+    match first {
+        Some(own) => coded_fault(alloc, own.code, own.place),
+        None => fault(alloc, b"Form", b""),
     }
 }
 
