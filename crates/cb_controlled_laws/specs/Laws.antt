@@ -11,10 +11,15 @@ use Rattle.cb_spec.specs.Typed.{Typed}
 use Rattle.cb_typed.specs.Laws.{AllOwedKinded}
 use Rattle.cb_obligations.specs.Owed.{machine_owes, AllOwedValid}
 use Rattle.cb_conditions.specs.Conditions.{controller_owes}
+use Rattle.cb_conditions.specs.Fitting.{PlainController}
 use Rattle.cb_conditions.specs.Sufficing.{ControllerFits, ControllerKinded}
 
 abbrev pub TypedControllersFit : Type 0
 TypedControllersFit = (y : System) → Typed y → (i : ℕ) (c : Controller) → IsNumbered y i c → ControllerFits y c
+
+-- their texts are as the walk needs them
+abbrev pub TypedControllersArePlain : Type 0
+TypedControllersArePlain = (y : System) → Typed y → (k : ℕ) (c : Controller) → IsAt y.controllers k c → PlainController y c
 
 abbrev pub TypedControllersKinded : Type 0
 TypedControllersKinded = (y : System) → Typed y → (i : ℕ) (c : Controller) → IsNumbered y i c → ControllerKinded y c

@@ -1,12 +1,17 @@
 //! Laws of typed systems and their controllers. Each is the contract of a function with nothing to do: a caller calls it for its fact.
 
-ghost use Rattle.cb_controlled_laws.specs.Laws.{TypedControllersFit, TypedControllersKinded, TypedConditionsSuffice, TypedSystemsOweKinded, TypedSystemsAreSound, TypedSystemsAreSafe};
+ghost use Rattle.cb_controlled_laws.specs.Laws.{TypedControllersFit, TypedControllersArePlain, TypedControllersKinded, TypedConditionsSuffice, TypedSystemsOweKinded, TypedSystemsAreSound, TypedSystemsAreSafe};
 ghost use Rattle.cb_controlled_laws.specs.Tickets.{TicketsAreSafe, TicketsRun};
 ghost use Rattle.cb_controlled_laws.specs.Dice.{DiceAreSafe, DiceRun};
 
 /// The controllers of a typed system fit.
 pub fn typed_controllers_fit()
     ensures { TypedControllersFit }
+{}
+
+/// The texts of controllers of a typed system are as a walk needs them.
+pub fn typed_controllers_are_plain()
+    ensures { TypedControllersArePlain }
 {}
 
 /// Arguments are of the kinds of the parameters.

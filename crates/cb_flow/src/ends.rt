@@ -22,9 +22,9 @@ use std::marker::Model;
 
 /// The controllers that use one end of a channel: the first, and where the second begins to.
 #[derive(Drop)]
-struct Users {
-    user: Option<u32>,
-    second: Option<Place>,
+pub struct Users {
+    pub user: Option<u32>,
+    pub second: Option<Place>,
 }
 
 impl Model for Users {
@@ -211,8 +211,8 @@ fn none_yet(alloc: Global, channels: &[RawChannel]) -> Result<Vec<Users>, Memory
     Ok(all)
 }
 
-// The users of one end of each channel.
-fn users_of_all(
+/// The users of one end of each channel, its sender where `side` is true, its receiver where it is false.
+pub fn users_of_all(
     alloc: Global,
     names: &Table<Entry>,
     side: bool,

@@ -205,3 +205,12 @@ module _ (es slice self : Writes) (same : slice ≡ es) (view : es ≡ self) (up
       let put = put_gap es i x v at_es.0 (subst (λ z. i ≤ length z) same within) in
       subst (λ n. IsAscending n × Puts self n x v) (sym is)
       (insert_ascends es i x v up at_es.0 at_es.1, subst (λ z. Puts z (insert es i (x, v)) x v) view (puts es (insert es i (x, v)) x v put))
+
+  -- so where the name stays as it stands there
+  pub put_kept : (e : Name × Value) (stored v : Value) → stored ≡ v → i < length slice → HoldsAt (Is Equal x) slice i → e ≡ get_or es i e →
+      IsAscending (set es i (e.0, stored)) × Puts self (set es i (e.0, stored)) x v
+  put_kept e stored v same_value within here is =
+      let at_es : HoldsAt (Is Equal x) es i = subst (λ z. HoldsAt (Is Equal x) z i) same here in
+      let name : e.0 ≡ x = order_equal e.0 x (subst (λ (q : Name × Value). name_order q.0 x ≡ Equal) (sym is) (at_es e)) in
+      subst (λ n. IsAscending (set es i (n, stored)) × Puts self (set es i (n, stored)) x v) (sym name)
+      (subst (λ w. IsAscending (set es i (x, w)) × Puts self (set es i (x, w)) x v) (sym same_value) (put_over v within here))

@@ -23,6 +23,7 @@ pub mod SubstFalls
 pub mod SubstSize
 pub mod SubstTree
 pub mod SubstView
+pub mod SystemCode
 pub mod Typed
 pub mod TypedProcesses
 pub mod TypedSubsts

@@ -163,3 +163,8 @@ IsTyped y = ∥ Typed y ∥₁
 
 abbrev pub IsSound : System → Type 0
 IsSound y = ∥ Sound y ∥₁
+
+-- what a specification of a sound system keeps
+pub record Sure (y : System) : Type 0 where
+  pub typed : Typed y
+  pub sound : Sound y

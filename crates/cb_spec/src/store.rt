@@ -1,6 +1,6 @@
 //! Stores.
 
-ghost use Rattle.std.specs.Prelude.{◌≡◌, [], IfOk, IfErr, OnOk, OnErr, ◌<◌, ◌≤◌, length};
+ghost use Rattle.std.specs.Prelude.{◌≡◌, [], Some, IsSome, IfOk, IfErr, OnOk, OnErr, ◌<◌, ◌≤◌, length};
 ghost use Rattle.std.specs.Option.{option_copied};
 ghost use Rattle.std.specs.List.{HoldsAt};
 ghost use Rattle.std.specs.List.Sorted.{IsPartitionPoint};
@@ -13,6 +13,7 @@ use cb_term::value::Value;
 use std::alloc::Global;
 use std::cmp::Ordering;
 use std::marker::Model;
+use std::mem;
 
 /// Names with values. A name that it lacks counts as the number 0. Contracts see the pairs in the order of their names.
 #[derive(Debug, Drop)]
@@ -79,6 +80,18 @@ impl Store {
                 Ok(())
             }
             Err(at) => Ok(self.entries.insert(at, (name, value))?),
+        }
+    }
+
+    /// Gives a name that is there this value, and hands out the one that it had. It takes no memory.
+    pub fn replace(&mut self, name: &Name, value: Value) -> Value
+        requires { IsSome (found self.old name.now) }
+        ensures new { Puts self.old self.new name.now value }
+        ensures old { Some result ≡ found self.old name.now }
+    {
+        match place(&self.entries, name) {
+            Ok(at) => mem::replace(&mut self.entries[at].1, value),
+            Err(_) => unreachable!(),
         }
     }
 

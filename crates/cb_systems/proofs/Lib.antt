@@ -1,3 +1,5 @@
 pub mod SameTables
 pub mod Shapes
 pub mod Making
+pub mod Firsts
+pub mod Orders

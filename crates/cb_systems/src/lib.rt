@@ -1,10 +1,13 @@
-//! The normal form of controllers.
+//! Well-formed texts: the system of a text, in normal form.
 #![tactic(auto)]
 
 mod bound;
-pub mod controllers;
+mod channels;
+mod controllers;
 mod definitions;
 mod events;
+mod order;
 mod parameters;
 mod parts;
-pub mod process;
+mod process;
+pub mod whole;

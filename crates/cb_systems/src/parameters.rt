@@ -106,6 +106,21 @@ fn declared(alloc: Global, domains: &Table<Choice>, name: &RawName) -> Result<De
     Ok(Declared { name, domain })
 }
 
+/// Names with their domains.
+pub(crate) fn declared_names(
+    alloc: Global,
+    domains: &Table<Choice>,
+    list: &[RawName],
+) -> Result<Items<Declared>, Memory>
+    ensures { IfOk result (λ ds. ds ≡ map (declared_name domains.now) list.now) }
+{
+    let mut all = Items::new(alloc);
+    for name in list {
+        all.push(declared(alloc, domains, name)?)?;
+    }
+    Ok(all)
+}
+
 fn all_declared(
     alloc: Global,
     domains: &Table<Choice>,

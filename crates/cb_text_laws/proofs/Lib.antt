@@ -16,4 +16,3 @@ pub mod Prefixes
 pub mod Orders
 pub mod Controllers
 pub mod Systems
-pub mod Alone

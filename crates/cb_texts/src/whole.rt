@@ -5,10 +5,11 @@ ghost use Rattle.cb_forms.specs.Faults.{Both, first};
 ghost use Rattle.cb_text_laws.specs.TextNames as spec;
 ghost use Rattle.cb_text_laws.specs.UseFaults.{missing_ends_fault};
 ghost use Rattle.cb_text_laws.specs.WholeText.{faults_of, part_faults, use_faults};
+ghost use Rattle.cb_types.specs.Declares.{reserved};
 ghost use Rattle.cb_types.specs.NormalMachines.{known_in};
 
 use crate::controllers::{Outside, controllers_fault};
-use crate::names::{enter_text, known_names};
+use crate::names::enter_text;
 use crate::views::outer_view;
 use cb_controls::channel::channels_fault;
 use cb_flow::uses::use_fault;
@@ -20,7 +21,6 @@ use cb_lex::raw::text::RawText;
 use cb_signatures::channels::channel_forms;
 use cb_signatures::operations::all_operations;
 use cb_types::machine::judge_machines;
-use cb_types::tables::reserved_names;
 use std::alloc::Global;
 
 // The first fault inside of a channel or a controller. The names of the whole text come twice.
@@ -35,6 +35,7 @@ fn part_fault(
     requires globals { globals.old ≡ spec.text_names text.now }
     requires names { names.old ≡ spec.text_names text.now }
     ensures fault { IfOk result (λ f. f ≡ first (part_faults text.now)) }
+    ensures globals { OnOk result (globals.new ≡ globals.old) }
     ensures names { OnOk result (names.new ≡ names.old) }
 {
     let machines = text.machines.as_slice();
@@ -70,24 +71,34 @@ fn inner_faults(
     requires names { names.old ≡ spec.text_names text.now }
     ensures firm { IfOk result (λ r. r.0 ≡ first (Both (part_faults text.now) (use_faults text.now))) }
     ensures missing { IfOk result (λ r. r.1 ≡ first (missing_ends_fault (spec.text_names text.now) text.now.controllers 0 text.now.channels)) }
+    ensures globals { OnOk result (globals.new ≡ globals.old) }
+    ensures names { OnOk result (names.new ≡ names.old) }
 {
     let parts = part_fault(alloc, known, globals, names, text)?;
     let (uses, missing) = use_fault(alloc, names, text)?;
     Ok((earlier(parts, uses), missing))
 }
 
-/// The first fault of a whole text: the least code that occurs, at its first place.
-pub fn text_fault(alloc: Global, text: &RawText) -> Result<Option<Fault>, Memory>
-    ensures { IfOk result (λ f. f ≡ first (faults_of text.now)) }
+/// The first fault of a whole text: the least code that occurs, at its first place. `known` are the names that stand before variables are
+/// known. The names of the whole text come into both tables: while those at a place come and go in `names`, `globals` keeps those of the
+/// whole text alone.
+pub fn first_fault(
+    alloc: Global,
+    known: &Table<Entry>,
+    globals: &mut Table<Entry>,
+    names: &mut Table<Entry>,
+    text: &RawText,
+) -> Result<Option<Fault>, Memory>
+    requires known { known.now ≡ known_in text.now.machines }
+    requires globals { globals.old ≡ reserved }
+    requires names { names.old ≡ reserved }
+    ensures fault { IfOk result (λ f. f ≡ first (faults_of text.now)) }
+    ensures globals { OnOk result (globals.new ≡ spec.text_names text.now) }
+    ensures names { OnOk result (names.new ≡ spec.text_names text.now) }
 {
-    let machines = text.machines.as_slice();
-    let known = known_names(alloc, machines)?;
-    let mut names = reserved_names(alloc)?;
-    let declared = enter_text(alloc, &known, &mut names, text)?;
-    // A second table keeps the names of the whole text alone, while those at a place come and go in the first.
-    let mut globals = reserved_names(alloc)?;
-    enter_text(alloc, &known, &mut globals, text)?;
-    let judged = judge_machines(alloc, &known, &mut names, machines)?;
-    let (inner, missing) = inner_faults(alloc, &known, &mut globals, &mut names, text)?;
+    let declared = enter_text(alloc, known, names, text)?;
+    enter_text(alloc, known, globals, text)?;
+    let judged = judge_machines(alloc, known, names, text.machines.as_slice())?;
+    let (inner, missing) = inner_faults(alloc, known, globals, names, text)?;
     Ok(earlier(earlier(earlier(declared, judged), inner), missing))
 }

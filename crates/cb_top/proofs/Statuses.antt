@@ -12,7 +12,7 @@ use Rattle.cb_verdicts.specs.declared.places.ProofFault.{ProofFault}
 use Rattle.cb_verdicts.specs.declared.places.ProofFault.TheVariants as wrong
 use Rattle.cb_words.specs.declared.request.Request.{Request}
 use Rattle.cb_words.specs.declared.request.Request.TheVariants as request
-use Rattle.cb_top.specs.Outcome.{Answer, IsLexicalAnswer, IsSyntaxAnswer, IsProofAnswer, IsAnswer, IsAnswered, IsJudged, OutcomesHaveStatuses, open_status, too_long, lexical, cut, refused_text, refused_proofs, spelled, unbuilt, ill_whole, ill, limited, answered, wrong_proof, right_proofs}
+use Rattle.cb_top.specs.Outcome.{Answer, IsLexicalAnswer, IsSyntaxAnswer, IsProofAnswer, IsAnswer, IsAnswered, IsJudged, OutcomesHaveStatuses, open_status, too_long, lexical, cut, refused_text, refused_proofs, spelled, ill, limited, answered, wrong_proof, right_proofs}
 
 abbrev HasStatus : Answer → Type 0
 HasStatus answer = (answer.status ≤ 2) ⊎ (answer.status ≡ 7)
@@ -53,9 +53,7 @@ of_answered asked y os ps answer (wrong_proof f h e) = of_proof f answer e
 of_answered asked y os ps answer (right_proofs h e) = of_answer asked y os ps answer e
 
 of_judged : (asked : Request) (t : RawText) (ps : List RawProof) (answer : Answer) → IsJudged asked t ps answer → HasStatus answer
-of_judged asked t ps answer (unbuilt n h e) = is_ill e refl
-of_judged asked t ps answer (ill_whole n f h e) = is_ill e refl
-of_judged asked t ps answer (ill j f h e) = is_ill e refl
+of_judged asked t ps answer (ill f h e) = is_ill e refl
 of_judged asked t ps answer (limited y w l h e) = inr (status_of e)
 of_judged asked t ps answer (answered y w n os owed a) = of_answered asked y os ps answer a
 

@@ -10,10 +10,12 @@ use Rattle.cb_spec.specs.declared.system.Machine.{Machine}
 use Rattle.cb_spec.specs.declared.system.System.{System}
 use Rattle.cb_spec.specs.Journals.{set_sizes}
 use Rattle.cb_spec.specs.Machines.{CallSafe}
+use Rattle.cb_spec.specs.Safe.{Safe}
 use Rattle.cb_spec.specs.States.{IsAt}
 use Rattle.cb_arguments.specs.Scopes.{symbols_of}
 use Rattle.cb_trace.specs.Texts.{open_count}
-use Rattle.cb_verdicts.specs.Owed.{AreOwed, first_limit}
+use Rattle.cb_owed.specs.Lists.{AreOwed}
+use Rattle.cb_owed.specs.Limits.{first_limit}
 use Rattle.cb_verdicts.specs.Proofs.{keys_of, first_wrong}
 use Rattle.cb_verdicts.specs.Verdicts.{verdicts}
 use Rattle.cb_words.specs.declared.request.Request.{Request}
@@ -25,7 +27,8 @@ use Rattle.cb_top.specs.Request.{bytes_of, TakesAccepted}
 abbrev pub MachinesAreSafe : System → Type 0
 MachinesAreSafe y = (k : ℕ) (m : Machine) → IsAt y.machines k m → CallSafe (set_sizes y) m
 
--- the bytes spell a text of machines that is well formed, with proofs that prove all that it owes; and what that promises
+-- the bytes spell a text that is well formed, with proofs that prove all that its system owes; and what that promises: the system is safe,
+-- whatever its controllers do and in whatever order
 pub record Accepted (bytes : List ℕ) : Type 0 where
   pub tokens : List Token
   pub cut : Lexes bytes start (Ok tokens)
@@ -36,12 +39,13 @@ pub record Accepted (bytes : List ℕ) : Type 0 where
   pub proofs_spelled : SpellsProofs tokens at proofs
   pub system : System
   pub well : IsWell text system
-  pub within : first_limit system.machines ≡ None
+  pub within : first_limit system ≡ None
   pub obligations : List Obligation
   pub owed : AreOwed system obligations
   pub right : first_wrong (keys_of obligations) [] proofs ≡ None
   pub proved : open_count (verdicts (set_sizes system) (symbols_of system) proofs obligations) ≡ 0
-  pub safe : MachinesAreSafe system
+  pub safe : Safe system
+  pub machines_safe : MachinesAreSafe system
 
 -- a request that takes accepted texts alone ends with status 0 on no other
 abbrev pub DoneIsAccepted : Type 0

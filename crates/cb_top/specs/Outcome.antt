@@ -18,8 +18,8 @@ use Rattle.cb_amn_parse.specs.Proofs.{proofs_out}
 use Rattle.cb_amn_parse.specs.Spelling.{SpellsFrom}
 use Rattle.cb_forms.specs.declared.fault.Fault.{Fault}
 use Rattle.cb_spec.specs.declared.system.System.{System}
-use Rattle.cb_types.specs.Whole.{WellFormed, FirstFault, IsSystemOf}
-use Rattle.cb_text_laws.specs.WholeText as whole
+use Rattle.cb_csp_parse.specs.Laws.{StandsAlone}
+use Rattle.cb_text_laws.specs.WholeText.{WellFormed, FirstFault, IsSystemOf}
 use Rattle.cb_seq.specs.declared.sequent.ObName.{ObName}
 use Rattle.cb_seq.specs.declared.sequent.Obligation.{Obligation}
 use Rattle.cb_wp.specs.declared.limits.Which.{Which}
@@ -29,7 +29,8 @@ use Rattle.cb_trace.specs.Texts.{obligation_text, listing_text, open_count, verd
 use Rattle.cb_trace.specs.declared.verdict.Verdict.{Verdict}
 use Rattle.cb_verdicts.specs.declared.places.ProofFault.{ProofFault}
 use Rattle.cb_verdicts.specs.declared.places.ProofFault.TheVariants as wrong
-use Rattle.cb_verdicts.specs.Owed.{AreOwed, first_limit}
+use Rattle.cb_owed.specs.Lists.{AreOwed}
+use Rattle.cb_owed.specs.Limits.{first_limit}
 use Rattle.cb_verdicts.specs.Proofs.{keys_of, first_wrong}
 use Rattle.cb_verdicts.specs.Verdicts.{verdicts}
 use Rattle.cb_words.specs.declared.request.Request.{Request}
@@ -157,28 +158,23 @@ pub data IsAnswered (asked : Request) (y : System) (os : List Obligation) (ps : 
   wrong_proof : (f : ProofFault) → first_wrong (keys_of os) [] ps ≡ Some f → IsProofAnswer f answer → IsAnswered asked y os ps answer
   right_proofs : first_wrong (keys_of os) [] ps ≡ None → IsAnswer asked y os ps answer → IsAnswered asked y os ps answer
 
--- the obligations of a text of machines alone are built
-abbrev pub IsJudgeable : RawText → Type 0
-IsJudgeable t = t.order ≡ None
-
--- a system is made of the text's machines
+-- the text is well formed, and a system is made of it
 pub record IsWell (t : RawText) (y : System) : Type 0 where
-  pub judgeable : IsJudgeable t
-  pub well_formed : WellFormed t.machines
-  pub system : IsSystemOf t.machines y
+  pub well_formed : WellFormed t
+  pub system : IsSystemOf t y
 
--- what may be answered on a text with its proofs. The obligations of a text with controllers are not built
+-- what may be answered on a text with its proofs: its first fault, the first limit, or what is said of all that its system owes
 pub data IsJudged (asked : Request) (t : RawText) (ps : List RawProof) (answer : Answer) : Type 0 where
-  unbuilt : (IsJudgeable t → ⊥) → whole.WellFormed t → answer ≡ ill_formed (codes "Form") [] → IsJudged asked t ps answer
-  ill_whole : (IsJudgeable t → ⊥) → (f : Fault) → whole.FirstFault t f → answer ≡ ill_answer f → IsJudged asked t ps answer
-  ill : IsJudgeable t → (f : Fault) → FirstFault t.machines f → answer ≡ ill_answer f → IsJudged asked t ps answer
-  limited : (y : System) → IsWell t y → (w : Which) → first_limit y.machines ≡ Some w → answer ≡ limit_answer (which_word w) → IsJudged asked t ps answer
-  answered : (y : System) → IsWell t y → first_limit y.machines ≡ None → (os : List Obligation) → AreOwed y os → IsAnswered asked y os ps answer →
+  ill : (f : Fault) → FirstFault t f → answer ≡ ill_answer f → IsJudged asked t ps answer
+  limited : (y : System) → IsWell t y → (w : Which) → first_limit y ≡ Some w → answer ≡ limit_answer (which_word w) → IsJudged asked t ps answer
+  answered : (y : System) → IsWell t y → first_limit y ≡ None → (os : List Obligation) → AreOwed y os → IsAnswered asked y os ps answer →
       IsJudged asked t ps answer
 
--- the tokens before this place spell the text: with the one there, which is the first PROOF or the end, nothing more of it is begun
-abbrev pub SpellsText : List Token → ℕ → RawText → Type 0
-SpellsText tokens at t = SpellsFrom part.Text 0 false tokens 0 (at + 1) (text_out t)
+-- the tokens before this place spell the text: with the one there, which is the first PROOF or the end, nothing more of it is begun. A
+-- text without SYSTEM is its machines alone
+pub record SpellsText (tokens : List Token) (at : ℕ) (t : RawText) : Type 0 where
+  pub spelled : SpellsFrom part.Text 0 false tokens 0 (at + 1) (text_out t)
+  pub alone : StandsAlone t
 
 -- the tokens from there on spell the proofs, in which opened names may stand
 abbrev pub SpellsProofs : List Token → ℕ → List RawProof → Type 0

@@ -1,12 +1,12 @@
 //! What a request answers on the bytes of its files.
-ghost use Rattle.std.specs.Prelude.{◌≡◌, ℕ, ◌≤◌, ◌<◌, List, [], length, map, string_bytes, IfOk, IfErr, slice_index_or};
+ghost use Rattle.std.specs.Prelude.{◌≡◌, ℕ, ◌≤◌, ◌<◌, ◌^◌, List, [], length, map, string_bytes, IfOk, IfErr, slice_index_or};
 ghost use Rattle.cb_edge.specs.Edge.{StaysSure};
-ghost use Rattle.cb_lex.specs.declared.raw.proof.RawProof.{RawProof};
-ghost use Rattle.cb_words.specs.declared.request.Request.{Request as Asked};
+ghost use Rattle.cb_spec.specs.Typed.{Typed};
+ghost use Rattle.cb_text_laws.specs.SpelledText.{IsSpelledText};
 ghost use Rattle.cb_top.specs.Change.{sources};
 ghost use Rattle.cb_top.specs.Stop.{HasFileCause};
 ghost use Rattle.cb_words.specs.declared.request.Request.TheVariants as request;
-ghost use Rattle.cb_top.specs.Outcome.{answer_of, ill_formed, ill_answer, limit_answer, verdict_answer, place_text, IsSyntaxAnswer, IsProofAnswer, IsJudgeable, IsWell, SpellsText, IsAnswered, IsJudged, IsReadAndJudged, IsOutcome, IsOutcomeOf, read_line};
+ghost use Rattle.cb_top.specs.Outcome.{answer_of, ill_formed, ill_answer, limit_answer, verdict_answer, place_text, IsSyntaxAnswer, IsProofAnswer, IsWell, SpellsText, IsAnswered, IsJudged, IsReadAndJudged, IsOutcome, IsOutcomeOf, read_line};
 
 use crate::MAX_BYTES;
 use crate::code::{code_name, which_word};
@@ -16,19 +16,21 @@ use cb_cert::reading::proofs;
 use cb_csp_parse::reading::text;
 use cb_edge::Files;
 use cb_grammar::SyntaxFault;
+use cb_judged::judge::{JudgeFault, judge};
 use cb_lex::lexer::{LexFault, tokens};
 use cb_lex::raw::proof::RawProof;
 use cb_lex::raw::text::RawText;
 use cb_lex::token::{Place, Token};
+use cb_owed::list::all_obligations;
 use cb_seq::sequent::{ObName, Obligation};
 use cb_spec::system::System;
-use cb_texts::whole::text_fault;
+use cb_spelled::laws::tokens_are_bytes;
+use cb_spelled_texts::laws::spelled_is_spelled_text;
+use cb_systems::whole::{IllFormed, well_formed};
+use cb_text_laws::laws::{ends_are_more, text_is_typed};
 use cb_trace::listing::listing_text;
 use cb_trace::verdict::{Verdict, open_count, verdict_text};
-use cb_types::well_formed::{IllFormed, well_formed};
-use cb_verdicts::judge::{JudgeFault, judge};
 use cb_verdicts::names::key;
-use cb_verdicts::obligations::all_obligations;
 use cb_verdicts::places::{ProofFault, places};
 use cb_words::Request;
 use cb_wp::limits::MakeFault;
@@ -77,7 +79,10 @@ fn judge_bytes(alloc: Global, request: &Request, bytes: &[u8]) -> Result<Outcome
     ensures { IfOk result (λ o. IsOutcome request.now bytes.now (answer_of o)) }
 {
     match tokens(alloc, bytes) {
-        Ok(tokens) => judge_tokens(alloc, request, &tokens),
+        Ok(tokens) => {
+            tokens_are_bytes();
+            judge_tokens(alloc, request, &tokens)
+        }
         Err(LexFault::BadByte(place)) => placed_fault(alloc, b"BadByte ", place),
         Err(LexFault::LongNumber(place)) => placed_fault(alloc, b"LongNumber ", place),
         Err(LexFault::OpenComment(place)) => placed_fault(alloc, b"OpenComment ", place),
@@ -87,6 +92,7 @@ fn judge_bytes(alloc: Global, request: &Request, bytes: &[u8]) -> Result<Outcome
 
 // The outcome of the tokens of a text.
 fn judge_tokens(alloc: Global, request: &Request, tokens: &[Token]) -> Result<Outcome, AllocError>
+    requires { length tokens.now < 2 ^ 32 }
     ensures { IfOk result (λ o. IsReadAndJudged request.now tokens.now (answer_of o)) }
 {
     match text(alloc, tokens) {
@@ -103,12 +109,16 @@ fn judge_with_proofs(
     raw: &RawText,
     at: usize,
 ) -> Result<Outcome, AllocError>
+    requires few { length tokens.now < 2 ^ 32 }
     requires spelled { SpellsText tokens.now at raw.now }
     requires within { at < length tokens.now }
     ensures { IfOk result (λ o. IsReadAndJudged request.now tokens.now (answer_of o)) }
 {
     match proofs(alloc, tokens, at) {
-        Ok((all, _)) => judge_text(alloc, request, raw, all.as_slice()),
+        Ok((all, _)) => {
+            spelled_is_spelled_text();
+            judge_text(alloc, request, raw, all.as_slice())
+        }
         Err(fault) => misread(alloc, fault),
     }
 }
@@ -132,27 +142,17 @@ fn judge_text(
     text: &RawText,
     proofs: &[RawProof],
 ) -> Result<Outcome, AllocError>
+    requires { IsSpelledText text.now }
     ensures { IfOk result (λ o. IsJudged request.now text.now proofs.now (answer_of o)) }
 {
-    if text.order.is_some() {
-        return judge_whole(alloc, text);
-    }
     match well_formed(alloc, text) {
-        Ok(system) => judge_system(alloc, request, text, system, proofs),
+        Ok(system) => {
+            ends_are_more();
+            text_is_typed();
+            judge_system(alloc, request, text, system, proofs)
+        }
         Err(IllFormed::Fault { code, place }) => coded_fault(alloc, code, place),
         Err(IllFormed::Memory) => Err(AllocError),
-    }
-}
-
-// The outcome of a text with controllers, whose obligations aren't built.
-fn judge_whole(alloc: Global, text: &RawText) -> Result<Outcome, AllocError>
-    requires { IsJudgeable text.now → ⊥ }
-    ensures { IfOk result (λ o. (asked : Asked) (ps : List RawProof) → IsJudged asked text.now ps (answer_of o)) }
-{
-    let first = text_fault(alloc, text)?;
-    match first {
-        Some(own) => coded_fault(alloc, own.code, own.place),
-        None => fault(alloc, b"Form", b""),
     }
 }
 
@@ -164,7 +164,8 @@ fn judge_system(
     system: System,
     proofs: &[RawProof],
 ) -> Result<Outcome, AllocError>
-    requires { IsWell _text.now system }
+    requires well { IsWell _text.now system }
+    requires typed { Typed system }
     ensures { IfOk result (λ o. IsJudged request.now _text.now proofs.now (answer_of o)) }
 {
     match request {
@@ -180,10 +181,11 @@ fn list_system(
     system: &System,
     proofs: &[RawProof],
 ) -> Result<Outcome, AllocError>
-    requires { IsWell _text.now system.now }
+    requires well { IsWell _text.now system.now }
+    requires typed { Typed system.now }
     ensures { IfOk result (λ o. (files : List (List ℕ)) → IsJudged (request.List files) _text.now proofs.now (answer_of o)) }
 {
-    match all_obligations(alloc, system.machines.as_slice()) {
+    match all_obligations(alloc, system) {
         Ok(list) => listing(alloc, system, &list, proofs),
         Err(MakeFault::Limit(which)) => limit_fault(alloc, which_word(which)),
         Err(MakeFault::Memory) => Err(AllocError),
@@ -197,11 +199,12 @@ fn check_system(
     system: System,
     proofs: &[RawProof],
 ) -> Result<Outcome, AllocError>
-    requires { IsWell _text.now system }
+    requires well { IsWell _text.now system }
+    requires typed { Typed system }
     ensures { IfOk result (λ o. (files : List (List ℕ)) → IsJudged (request.Check files) _text.now proofs.now (answer_of o)) }
 {
     match judge(alloc, system, proofs) {
-        Ok(judged) => verdict_outcome(alloc, &judged.lines),
+        Ok(judged) => verdict_outcome(alloc, judged.lines()),
         Err(JudgeFault::Limit(which)) => limit_fault(alloc, which_word(which)),
         Err(JudgeFault::UnknownProof(name)) => proof_fault(alloc, ProofFault::Unknown(name)),
         Err(JudgeFault::DoubleProof(name)) => proof_fault(alloc, ProofFault::Double(name)),

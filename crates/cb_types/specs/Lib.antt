@@ -1,4 +1,3 @@
 pub mod Declares
 pub mod MachineFaults
 pub mod NormalMachines
-pub mod Whole

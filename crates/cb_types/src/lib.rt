@@ -1,8 +1,7 @@
-//! Well-formed texts: the first fault of a text, or its system in normal form.
+//! Well-formed machines: their first fault, and their normal form.
 #![tactic(auto)]
 
 pub mod declare;
 pub mod machine;
 pub mod system;
 pub mod tables;
-pub mod well_formed;

@@ -1,11 +1,10 @@
-//! The system of a text, in normal form.
+//! The machines, sets and constants of a text, in normal form.
 
 ghost use Rattle.std.specs.Prelude.{◌≡◌, ◌++◌, [], IfOk, OnOk, map};
 ghost use Rattle.cb_normal.specs.NormalSubsts.{subst_in};
 ghost use Rattle.cb_types.specs.Declares.{domains_of, view_of, inner_view, numbers_from};
 ghost use Rattle.cb_types.specs.MachineFaults.{inside_operation};
-ghost use Rattle.cb_types.specs.NormalMachines.{written_name, declared_name, maybe_formula, kind_or_set, given_kind, result_name, results_in, operation_inside, operation_in, invariant_in, start_in, variables_in, machine_in, machines_in, set_in, constant_in, sets_of, constants_of, known_in, names_in};
-ghost use Rattle.cb_types.specs.Whole.{IsSystemOf};
+ghost use Rattle.cb_types.specs.NormalMachines.{written_name, declared_name, maybe_formula, kind_or_set, given_kind, result_name, results_in, operation_inside, operation_in, invariant_in, start_in, variables_in, machine_in, machines_in, set_in, constant_in, sets_of, constants_of};
 
 use crate::declare::{domains, next_number, number_or_zero, numbers};
 use crate::machine::{declare_locals, view_inside};
@@ -21,10 +20,10 @@ use cb_lex::raw::text::{RawMachine, RawOperation, RawSet, RawState};
 use cb_normal::formula::{copy_name, domain_or_zero, normal_formula};
 use cb_normal::subst::{normal_subst, skip};
 use cb_spec::subst::Subst;
-use cb_spec::system::{Declared, Machine, Operation, System};
+use cb_spec::system::{Declared, Machine, Operation};
 use cb_term::kind::{Base, Kind};
 use cb_term::name::{Name, Names};
-use cb_term::table::{SetNames, SetTable};
+use cb_term::table::SetNames;
 use cb_term::tree::Formula;
 use sqlite_items::Items;
 use std::alloc::Global;
@@ -424,7 +423,9 @@ fn normal_machine(
     })
 }
 
-fn normal_machines(
+/// Machines in normal form, in text order. `known` are the names of sets, elements and constants, and `names` all that stand for
+/// something in the whole text; they end as they began.
+pub fn normal_machines(
     alloc: Global,
     known: &Table<Entry>,
     names: &mut Table<Entry>,
@@ -523,7 +524,8 @@ fn all_constants(alloc: Global, machines: &[RawMachine]) -> Result<Items<(Name, 
     Ok(all)
 }
 
-fn sets_and_constants(
+/// The sets of all machines with their elements, and the constants with their numbers, in text order.
+pub fn sets_and_constants(
     alloc: Global,
     machines: &[RawMachine],
 ) -> Result<(Vec<SetNames>, Items<(Name, i64)>), Memory>
@@ -533,27 +535,4 @@ fn sets_and_constants(
     let sets = all_sets(alloc, machines)?;
     let constants = all_constants(alloc, machines)?;
     Ok((sets, constants))
-}
-
-/// The system of the machines, whose names are `known`, and `names`.
-pub fn system(
-    alloc: Global,
-    known: &Table<Entry>,
-    names: &mut Table<Entry>,
-    machines: &[RawMachine],
-) -> Result<System, Memory>
-    requires known { known.now ≡ known_in machines.now }
-    requires names { names.old ≡ names_in machines.now }
-    ensures { IfOk result (λ y. IsSystemOf machines.now y) }
-{
-    let normal = normal_machines(alloc, known, names, machines)?;
-    let (sets, constants) = sets_and_constants(alloc, machines)?;
-    Ok(System {
-        sets: SetTable { sets },
-        constants,
-        machines: normal,
-        channels: Items::new(alloc),
-        controllers: Items::new(alloc),
-        order: Items::new(alloc),
-    })
 }

@@ -1,3 +1,2 @@
 mod Certs
-mod Listing
 mod Tables

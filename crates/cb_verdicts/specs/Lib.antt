@@ -2,5 +2,3 @@ pub mod Certificates
 pub mod Given
 pub mod Proofs
 pub mod Verdicts
-pub mod Owed
-pub mod Judging

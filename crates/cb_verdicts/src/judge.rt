@@ -1,4 +1,4 @@
-//! The verdict on each obligation, and a whole system judged.
+//! The verdict on each obligation.
 
 ghost use Rattle.std.specs.Prelude.{◌≡◌, None, [], IfOk, OnOk, IfErr};
 ghost use Rattle.std.specs.Option.{option_copied};
@@ -6,14 +6,11 @@ ghost use Rattle.cb_term.specs.Table.{sizes_of};
 ghost use Rattle.cb_seq.specs.Validity.{claim_of};
 ghost use Rattle.cb_verdicts.specs.Proofs.{keys_of, first_wrong};
 ghost use Rattle.cb_arguments.specs.Scopes.{symbols_of};
-ghost use Rattle.cb_verdicts.specs.Owed.{AreOwed, first_limit};
-ghost use Rattle.cb_verdicts.specs.Judging.{AreJudged, IsUnjudged};
 ghost use Rattle.cb_verdicts.specs.Verdicts as spec;
 ghost use Rattle.cb_verdicts.specs.Given.{Finds, Refuses, cert_at};
 
 use crate::certificates::cert_of;
 use crate::names::key;
-use crate::obligations::all_obligations;
 use crate::places::{ProofFault, places};
 use cb_arguments::scope::{Symbols, symbols};
 use cb_check::laws::derives_without_bad;
@@ -25,29 +22,7 @@ use cb_spec::system::System;
 use cb_term::Memory;
 use cb_term::table::SetTable;
 use cb_trace::verdict::Verdict;
-use cb_wp::limits::{MakeFault, Which};
 use std::alloc::{AllocError, Global};
-
-/// A system with the verdicts on its obligations.
-#[derive(Drop)]
-pub struct Judged {
-    pub system: System,
-    /// The name of each obligation, in order, with its verdict.
-    pub lines: Vec<(ObName, Verdict)>,
-}
-
-/// Why a system isn't judged.
-#[derive(Drop)]
-pub enum JudgeFault {
-    /// The first limit that the list of obligations passes.
-    Limit(Which),
-    /// The first wrong proof has this name, which is that of no obligation.
-    UnknownProof(ObName),
-    /// The first wrong proof has this name, which an earlier one has.
-    DoubleProof(ObName),
-    /// Want of memory.
-    Memory,
-}
 
 // The certificate of the proof at the place.
 fn proof_at(proofs: &[RawProof], place: Option<usize>) -> Option<&RawCert>
@@ -136,8 +111,8 @@ pub fn verdicts(
     Ok(all_verdicts(alloc, sets, symbols, list, proofs, &places)?)
 }
 
-// The verdict on each obligation of the system.
-fn verdicts_in(
+/// The verdict on each obligation of the system, in order, by the proofs of a text. Errors as those of `verdicts`.
+pub fn verdicts_in(
     alloc: Global,
     system: &System,
     list: &[Obligation],
@@ -149,53 +124,4 @@ fn verdicts_in(
 {
     let symbols = symbols(alloc, system)?;
     verdicts(alloc, &system.sets, &symbols, list, proofs)
-}
-
-// The lines of a system whose obligations these are.
-fn judged_list(
-    alloc: Global,
-    system: &System,
-    list: &[Obligation],
-    proofs: &[RawProof],
-) -> Result<Vec<(ObName, Verdict)>, JudgeFault>
-    requires owed { AreOwed system.now list.now }
-    requires within { first_limit system.now.machines ≡ None }
-    ensures lines { IfOk result (λ lines. AreJudged system.now proofs.now lines.items) }
-    ensures fault { IfErr result (IsUnjudged system.now proofs.now) }
-{
-    match verdicts_in(alloc, system, list, proofs) {
-        Ok(lines) => Ok(lines),
-        Err(ProofFault::Unknown(name)) => Err(JudgeFault::UnknownProof(name)),
-        Err(ProofFault::Double(name)) => Err(JudgeFault::DoubleProof(name)),
-        Err(ProofFault::Memory) => Err(JudgeFault::Memory),
-    }
-}
-
-fn judged_lines(
-    alloc: Global,
-    system: &System,
-    proofs: &[RawProof],
-) -> Result<Vec<(ObName, Verdict)>, JudgeFault>
-    ensures lines { IfOk result (λ lines. AreJudged system.now proofs.now lines.items) }
-    ensures fault { IfErr result (IsUnjudged system.now proofs.now) }
-{
-    match all_obligations(alloc, system.machines.as_slice()) {
-        Ok(list) => judged_list(alloc, system, &list, proofs),
-        Err(MakeFault::Limit(which)) => Err(JudgeFault::Limit(which)),
-        Err(MakeFault::Memory) => Err(JudgeFault::Memory),
-    }
-}
-
-/// Judges a system by the proofs of its text.
-///
-/// # Errors
-/// `Limit` with the first limit that the list of obligations passes; else `UnknownProof` or `DoubleProof` with the name of the
-/// first proof that is of no obligation, or of one that an earlier proof is of; `Memory`.
-pub fn judge(alloc: Global, system: System, proofs: &[RawProof]) -> Result<Judged, JudgeFault>
-    ensures system { IfOk result (λ j. j.system ≡ system) }
-    ensures lines { IfOk result (λ j. AreJudged system proofs.now j.lines.items) }
-    ensures fault { IfErr result (IsUnjudged system proofs.now) }
-{
-    let lines = judged_lines(alloc, &system, proofs)?;
-    Ok(Judged { system, lines })
 }

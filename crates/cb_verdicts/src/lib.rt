@@ -4,5 +4,4 @@
 pub mod certificates;
 pub mod judge;
 pub mod names;
-pub mod obligations;
 pub mod places;

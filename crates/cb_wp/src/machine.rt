@@ -45,7 +45,8 @@ pub fn branches_within(machine: &Machine) -> bool
     branch_count(&machine.init) <= 256 && bodies_within(machine.operations.as_slice())
 }
 
-fn with_kinds(alloc: Global, declared: &[Declared]) -> Result<Vec<(Name, Kind)>, Memory>
+/// The declared names with their kinds.
+pub fn with_kinds(alloc: Global, declared: &[Declared]) -> Result<Vec<(Name, Kind)>, Memory>
     ensures { IfOk result (λ v. v.items ≡ owed.with_kinds declared.now) }
 {
     let mut names = Vec::new(alloc);
@@ -69,8 +70,8 @@ fn under_precondition(
     where_it_holds(alloc, bound, pre, inside)
 }
 
-// `P => F` for all values of the parameters. `bound` are the names bound around it, the innermost first.
-fn for_all(
+/// `P => F` for all values of the parameters. `bound` are the names bound around it, the innermost first.
+pub fn for_all(
     alloc: Global,
     bound: &[Name],
     params: &[Declared],
@@ -147,8 +148,8 @@ fn put_named(
     put(into, Obligation { name, sequent })
 }
 
-// Appends the sequents as the obligations of the group, counted from 1.
-fn add_named(
+/// Appends the sequents as the obligations of the group whose first name this is, counted from 1.
+pub fn add_named(
     alloc: Global,
     first: &ObName,
     sequents: Vec<Sequent>,
@@ -164,16 +165,16 @@ fn add_named(
     Ok(())
 }
 
-// The group's first name.
-fn first_name(
+/// The group's first name.
+pub fn first_name(
     alloc: Global,
     group: Group,
-    machine: &Machine,
+    owner: &Name,
     part: Option<Name>,
 ) -> Result<ObName, Memory>
-    ensures { IfOk result (λ x. x ≡ record { group = group; owner = machine.now.name; part = part; number = 1 }) }
+    ensures { IfOk result (λ x. x ≡ record { group = group; owner = owner.now; part = part; number = 1 }) }
 {
-    let owner = machine.name.copy(alloc)?;
+    let owner = owner.copy(alloc)?;
     Ok(ObName {
         group,
         owner,
@@ -213,7 +214,7 @@ fn add_group(
     ensures fault { IfErr result (λ e. Faulted e used.old (formula_steps machine.now formula)) }
 {
     let sequents = pieces_of(alloc, names, formula, used)?;
-    let first = first_name(alloc, group, machine, part)?;
+    let first = first_name(alloc, group, &machine.name, part)?;
     add_named(alloc, &first, sequents, into)?;
     Ok(())
 }

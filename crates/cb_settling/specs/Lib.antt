@@ -1,0 +1,4 @@
+pub mod Branches
+pub mod Resolving
+pub mod Ops
+pub mod Calling

@@ -1,0 +1,5 @@
+pub mod EntryLemmas
+pub mod LimitLemmas
+pub mod ReadingLemmas
+pub mod ShowLemmas
+pub mod WalkLemmas

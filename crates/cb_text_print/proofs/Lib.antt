@@ -1,0 +1,10 @@
+pub mod Operands
+pub mod Heard
+pub mod Pieces
+pub mod TextPieces
+pub mod Spelled
+pub mod TextSpelled
+pub mod Ended
+pub mod PrintedBack
+pub mod Aside
+pub mod ReadAgain

@@ -1,0 +1,4 @@
+pub mod Processes
+pub mod Texts
+pub mod Unplaced
+pub mod Printed
