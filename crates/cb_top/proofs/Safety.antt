@@ -29,7 +29,9 @@ use Rattle.cb_verdicts.specs.declared.places.ProofFault.TheVariants as wrong
 use Rattle.cb_judged.proofs.Keeping.{system_tells, owes_valid}
 use Rattle.cb_words.specs.declared.request.Request.TheVariants as request
 use Rattle.cb_top.specs.Accepted.{Accepted, DoneIsAccepted}
-use Rattle.cb_top.specs.Outcome.{Answer, too_long, lexical, cut, refused_text, refused_proofs, spelled, IsJudged, ill, limited, answered, wrong_proof, right_proofs, open_status, IsLexicalAnswer, IsSyntaxAnswer, IsProofAnswer, SpellsText, SpellsProofs}
+use Rattle.cb_top.specs.Outcome.{Answer, too_long, lexical, cut, refused_text, refused_proofs, spelled, IsJudged, ill, limited, answered, wrong_proof, right_proofs, open_status, IsLexicalAnswer, IsSyntaxAnswer, IsProofAnswer}
+use Rattle.cb_accept.specs.Accepting.{SpellsText, SpellsProofs}
+use Rattle.cb_accept.proofs.Spelled.{read_typed}
 use Rattle.cb_top.specs.declared.TheConstants.{MAX_BYTES}
 
 -- ---- verdicts
@@ -60,17 +62,6 @@ not_proof (wrong.Unknown n) answer e s = omega (arith, status_of e s)
 not_proof (wrong.Double n) answer e s = omega (arith, status_of e s)
 not_proof wrong.Memory answer e s = e
 
--- ---- the text
-
--- what few tokens spell is a spelled text
-pub is_spelled_text : SpelledIsSpelledText → (tokens : List Token) → length tokens < 2 ^ 32 → (at : ℕ) (t : RawText) → SpellsText tokens at t → IsSpelledText t
-is_spelled_text shaped tokens few at t spells =
-    let whole = subst (λ (ls : List Lexeme). IsSpelled part.Text 0 false (drop 0 tokens) (at + 1 - 0) ls) (sym (append-nil (text_out t))) spells.spelled.spelled in
-    shaped part.Text 0 false (drop 0 tokens) (at + 1 - 0) [] t (omega (arith, few, length-drop 0 tokens)) spells.alone whole
-
-few_tokens : TokensAreBytes → (bytes : List ℕ) → length bytes ≤ MAX_BYTES → (tokens : List Token) → Lexes bytes start (Ok tokens) → length tokens < 2 ^ 32
-few_tokens counted bytes fits tokens cuts = omega (arith, fits, counted bytes start tokens cuts)
-
 -- ---- the theorem
 
 module _ (valid : DerivedIsValid) (no_bad : DerivesWithoutBad) (machines : TypedMachinesOweKinded) (controllers : TypedSystemsOweKinded) (fit : TypedMachinesFit)
@@ -82,7 +73,7 @@ module _ (valid : DerivedIsValid) (no_bad : DerivesWithoutBad) (machines : Typed
   judged_accepted files bytes fits tokens cuts at t spells ps proves answer (limited y w l h e) s = absurd (omega (arith, status_of e s))
   judged_accepted files bytes fits tokens cuts at t spells ps proves answer (answered y w n os owed (wrong_proof f h e)) s = absurd (not_proof f answer e s)
   judged_accepted files bytes fits tokens cuts at t spells ps proves answer (answered y w n os owed (right_proofs h e)) s =
-      let y_typed = typed t (is_spelled_text shaped tokens (few_tokens counted bytes fits tokens cuts) at t spells) (more t w.well_formed) y w.system in
+      let y_typed = read_typed counted shaped more typed bytes fits t ps (record { tokens = tokens; cut = cuts; at = at; text = spells; proofs = proves }) y w in
       let none = no_status _ (status_of e s) in
       let owes = owes_valid y (verdicts (set_sizes y) (symbols_of y) ps os) (system_tells valid no_bad machines controllers y y_typed ps os owed) none in
       record {

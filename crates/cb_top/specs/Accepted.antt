@@ -20,7 +20,8 @@ use Rattle.cb_verdicts.specs.Proofs.{keys_of, first_wrong}
 use Rattle.cb_verdicts.specs.Verdicts.{verdicts}
 use Rattle.cb_words.specs.declared.request.Request.{Request}
 use Rattle.cb_top.specs.Joined.{Agree}
-use Rattle.cb_top.specs.Outcome.{Answer, IsOutcome, IsWell, SpellsText, SpellsProofs}
+use Rattle.cb_accept.specs.Accepting.{IsWell, SpellsText, SpellsProofs}
+use Rattle.cb_top.specs.Outcome.{Answer, IsOutcome}
 use Rattle.cb_top.specs.Request.{bytes_of, TakesAccepted}
 
 -- however a machine starts and whatever is called within the preconditions, its invariant holds at the start and after each call

@@ -13,13 +13,9 @@ use Rattle.cb_grammar.specs.Misreadings.{Misread}
 use Rattle.cb_grammar.specs.declared.parts.Part.TheVariants as part
 use Rattle.cb_grammar.specs.declared.reading.SyntaxFault.{SyntaxFault}
 use Rattle.cb_grammar.specs.declared.reading.SyntaxFault.TheVariants as syntax
-use Rattle.cb_amn_parse.specs.Processes.{text_out}
-use Rattle.cb_amn_parse.specs.Proofs.{proofs_out}
-use Rattle.cb_amn_parse.specs.Spelling.{SpellsFrom}
 use Rattle.cb_forms.specs.declared.fault.Fault.{Fault}
 use Rattle.cb_spec.specs.declared.system.System.{System}
-use Rattle.cb_csp_parse.specs.Laws.{StandsAlone}
-use Rattle.cb_text_laws.specs.WholeText.{WellFormed, FirstFault, IsSystemOf}
+use Rattle.cb_text_laws.specs.WholeText.{FirstFault}
 use Rattle.cb_seq.specs.declared.sequent.ObName.{ObName}
 use Rattle.cb_seq.specs.declared.sequent.Obligation.{Obligation}
 use Rattle.cb_wp.specs.declared.limits.Which.{Which}
@@ -33,6 +29,11 @@ use Rattle.cb_owed.specs.Lists.{AreOwed}
 use Rattle.cb_owed.specs.Limits.{first_limit}
 use Rattle.cb_verdicts.specs.Proofs.{keys_of, first_wrong}
 use Rattle.cb_verdicts.specs.Verdicts.{verdicts}
+use Rattle.cb_judged.specs.declared.judge.JudgeFault.{JudgeFault}
+use Rattle.cb_judged.specs.declared.judge.JudgeFault.TheVariants as judging
+use Rattle.cb_accept.specs.Accepting.{SpellsText, SpellsProofs, IsWell}
+use Rattle.cb_accept.specs.declared.read.TextFault.{TextFault}
+use Rattle.cb_accept.specs.declared.read.TextFault.TheVariants as fault
 use Rattle.cb_words.specs.declared.request.Request.{Request}
 use Rattle.cb_words.specs.declared.request.Request.TheVariants as request
 use Rattle.cb_top.specs.declared.outcome.Ending.{Ending}
@@ -140,6 +141,17 @@ IsProofAnswer (wrong.Unknown n) answer = answer ≡ ill_formed (codes "UnknownPr
 IsProofAnswer (wrong.Double n) answer = answer ≡ ill_formed (codes "DoubleProof ") (obligation_text n)
 IsProofAnswer wrong.Memory answer = ⊥
 
+-- the answer to a text that is not judged; want of memory has none
+abbrev pub IsRefusal : TextFault → Answer → Type 0
+IsRefusal (fault.Lex f) answer = IsLexicalAnswer f answer
+IsRefusal (fault.Syntax f) answer = IsSyntaxAnswer f answer
+IsRefusal (fault.Ill code place) answer = answer ≡ ill_answer (record { code = code; place = place })
+IsRefusal (fault.Judge (judging.Limit w)) answer = answer ≡ limit_answer (which_word w)
+IsRefusal (fault.Judge (judging.UnknownProof n)) answer = IsProofAnswer (wrong.Unknown n) answer
+IsRefusal (fault.Judge (judging.DoubleProof n)) answer = IsProofAnswer (wrong.Double n) answer
+IsRefusal (fault.Judge judging.Memory) answer = ⊥
+IsRefusal fault.Memory answer = ⊥
+
 -- 0 where none is open, else 1
 abbrev pub open_status : ℕ → ℕ
 open_status zero = 0
@@ -158,27 +170,12 @@ pub data IsAnswered (asked : Request) (y : System) (os : List Obligation) (ps : 
   wrong_proof : (f : ProofFault) → first_wrong (keys_of os) [] ps ≡ Some f → IsProofAnswer f answer → IsAnswered asked y os ps answer
   right_proofs : first_wrong (keys_of os) [] ps ≡ None → IsAnswer asked y os ps answer → IsAnswered asked y os ps answer
 
--- the text is well formed, and a system is made of it
-pub record IsWell (t : RawText) (y : System) : Type 0 where
-  pub well_formed : WellFormed t
-  pub system : IsSystemOf t y
-
 -- what may be answered on a text with its proofs: its first fault, the first limit, or what is said of all that its system owes
 pub data IsJudged (asked : Request) (t : RawText) (ps : List RawProof) (answer : Answer) : Type 0 where
   ill : (f : Fault) → FirstFault t f → answer ≡ ill_answer f → IsJudged asked t ps answer
   limited : (y : System) → IsWell t y → (w : Which) → first_limit y ≡ Some w → answer ≡ limit_answer (which_word w) → IsJudged asked t ps answer
   answered : (y : System) → IsWell t y → first_limit y ≡ None → (os : List Obligation) → AreOwed y os → IsAnswered asked y os ps answer →
       IsJudged asked t ps answer
-
--- the tokens before this place spell the text: with the one there, which is the first PROOF or the end, nothing more of it is begun. A
--- text without SYSTEM is its machines alone
-pub record SpellsText (tokens : List Token) (at : ℕ) (t : RawText) : Type 0 where
-  pub spelled : SpellsFrom part.Text 0 false tokens 0 (at + 1) (text_out t)
-  pub alone : StandsAlone t
-
--- the tokens from there on spell the proofs, in which opened names may stand
-abbrev pub SpellsProofs : List Token → ℕ → List RawProof → Type 0
-SpellsProofs tokens at ps = (to : ℕ) × SpellsFrom part.Proofs 0 true tokens at to (proofs_out ps)
 
 -- what may be answered to a request on these tokens: the first fault of the text's syntax, or of its proofs', or what is judged of them
 pub data IsReadAndJudged (asked : Request) (tokens : List Token) (answer : Answer) : Type 0 where

@@ -1,39 +1,30 @@
 //! What a request answers on the bytes of its files.
-ghost use Rattle.std.specs.Prelude.{◌≡◌, ℕ, ◌≤◌, ◌<◌, ◌^◌, List, [], length, map, string_bytes, IfOk, IfErr, slice_index_or};
+ghost use Rattle.std.specs.Prelude.{◌≡◌, ℕ, ◌≤◌, ◌<◌, List, [], length, map, string_bytes, IfOk, IfErr, slice_index_or};
 ghost use Rattle.cb_edge.specs.Edge.{StaysSure};
-ghost use Rattle.cb_spec.specs.Typed.{Typed};
-ghost use Rattle.cb_text_laws.specs.SpelledText.{IsSpelledText};
+ghost use Rattle.cb_trace.specs.Texts.{obligation_text, listing_text as text_of};
+ghost use Rattle.cb_accept.specs.declared.read.TextFault.TheVariants as fault;
 ghost use Rattle.cb_top.specs.Change.{sources};
 ghost use Rattle.cb_top.specs.Stop.{HasFileCause};
 ghost use Rattle.cb_words.specs.declared.request.Request.TheVariants as request;
-ghost use Rattle.cb_top.specs.Outcome.{answer_of, ill_formed, ill_answer, limit_answer, verdict_answer, place_text, IsSyntaxAnswer, IsProofAnswer, IsWell, SpellsText, IsAnswered, IsJudged, IsReadAndJudged, IsOutcome, IsOutcomeOf, read_line};
+ghost use Rattle.cb_top.specs.Outcome.{answer_of, ill_formed, ill_answer, limit_answer, verdict_answer, place_text, IsLexicalAnswer, IsSyntaxAnswer, IsRefusal, IsOutcome, IsOutcomeOf, read_line};
 
 use crate::MAX_BYTES;
 use crate::code::{code_name, which_word};
 use crate::outcome::{Ending, Outcome, Refusal, Stop};
 use crate::sources::{Unread, read_files};
-use cb_cert::reading::proofs;
-use cb_csp_parse::reading::text;
+use cb_accept::accept::{accept_text, list_text};
+use cb_accept::read::TextFault;
 use cb_edge::Files;
 use cb_grammar::SyntaxFault;
-use cb_judged::judge::{JudgeFault, judge};
-use cb_lex::lexer::{LexFault, tokens};
-use cb_lex::raw::proof::RawProof;
-use cb_lex::raw::text::RawText;
-use cb_lex::token::{Place, Token};
-use cb_owed::list::all_obligations;
+use cb_judged::judge::JudgeFault;
+use cb_lex::lexer::LexFault;
+use cb_lex::token::Place;
 use cb_seq::sequent::{ObName, Obligation};
 use cb_spec::system::System;
-use cb_spelled::laws::tokens_are_bytes;
-use cb_spelled_texts::laws::spelled_is_spelled_text;
-use cb_systems::whole::{IllFormed, well_formed};
-use cb_text_laws::laws::{ends_are_more, text_is_typed};
 use cb_trace::listing::listing_text;
 use cb_trace::verdict::{Verdict, open_count, verdict_text};
 use cb_verdicts::names::key;
-use cb_verdicts::places::{ProofFault, places};
 use cb_words::Request;
-use cb_wp::limits::MakeFault;
 use std::alloc::{AllocError, Global};
 
 /// The outcome of a request on its files, whose names are these.
@@ -78,48 +69,56 @@ fn judge_bytes(alloc: Global, request: &Request, bytes: &[u8]) -> Result<Outcome
     requires { length bytes.now ≤ MAX_BYTES }
     ensures { IfOk result (λ o. IsOutcome request.now bytes.now (answer_of o)) }
 {
-    match tokens(alloc, bytes) {
-        Ok(tokens) => {
-            tokens_are_bytes();
-            judge_tokens(alloc, request, &tokens)
-        }
-        Err(LexFault::BadByte(place)) => placed_fault(alloc, b"BadByte ", place),
-        Err(LexFault::LongNumber(place)) => placed_fault(alloc, b"LongNumber ", place),
-        Err(LexFault::OpenComment(place)) => placed_fault(alloc, b"OpenComment ", place),
-        Err(LexFault::Memory(fault)) => Err(fault),
+    match request {
+        Request::List { .. } => list_bytes(alloc, bytes),
+        Request::Check { .. } => check_bytes(alloc, bytes),
     }
 }
 
-// The outcome of the tokens of a text.
-fn judge_tokens(alloc: Global, request: &Request, tokens: &[Token]) -> Result<Outcome, AllocError>
-    requires { length tokens.now < 2 ^ 32 }
-    ensures { IfOk result (λ o. IsReadAndJudged request.now tokens.now (answer_of o)) }
+// The outcome of `list`.
+fn list_bytes(alloc: Global, bytes: &[u8]) -> Result<Outcome, AllocError>
+    requires { length bytes.now ≤ MAX_BYTES }
+    ensures { IfOk result (λ o. (files : List (List ℕ)) → IsOutcome (request.List files) bytes.now (answer_of o)) }
 {
-    match text(alloc, tokens) {
-        Ok((raw, at)) => judge_with_proofs(alloc, request, tokens, &raw, at),
-        Err(fault) => misread(alloc, fault),
+    match list_text(alloc, bytes) {
+        Ok(listed) => listing(alloc, &listed.system, &listed.obligations),
+        Err(fault) => refusal(alloc, fault),
     }
 }
 
-// The outcome of a text whose proofs begin at this token.
-fn judge_with_proofs(
-    alloc: Global,
-    request: &Request,
-    tokens: &[Token],
-    raw: &RawText,
-    at: usize,
-) -> Result<Outcome, AllocError>
-    requires few { length tokens.now < 2 ^ 32 }
-    requires spelled { SpellsText tokens.now at raw.now }
-    requires within { at < length tokens.now }
-    ensures { IfOk result (λ o. IsReadAndJudged request.now tokens.now (answer_of o)) }
+// The outcome of `check`.
+fn check_bytes(alloc: Global, bytes: &[u8]) -> Result<Outcome, AllocError>
+    requires { length bytes.now ≤ MAX_BYTES }
+    ensures { IfOk result (λ o. (files : List (List ℕ)) → IsOutcome (request.Check files) bytes.now (answer_of o)) }
 {
-    match proofs(alloc, tokens, at) {
-        Ok((all, _)) => {
-            spelled_is_spelled_text();
-            judge_text(alloc, request, raw, all.as_slice())
-        }
-        Err(fault) => misread(alloc, fault),
+    match accept_text(alloc, bytes) {
+        Ok(judged) => verdict_outcome(alloc, judged.lines()),
+        Err(fault) => refusal(alloc, fault),
+    }
+}
+
+// The outcome of a text that isn't judged.
+fn refusal(alloc: Global, fault: TextFault) -> Result<Outcome, AllocError>
+    ensures { IfOk result (λ o. IsRefusal fault (answer_of o)) }
+{
+    match fault {
+        TextFault::Lex(fault) => miscut(alloc, fault),
+        TextFault::Syntax(fault) => misread(alloc, fault),
+        TextFault::Ill { code, place } => coded_fault(alloc, code, place),
+        TextFault::Judge(fault) => unjudged(alloc, fault),
+        TextFault::Memory => Err(AllocError),
+    }
+}
+
+// The outcome of a fault of the bytes.
+fn miscut(alloc: Global, fault: LexFault) -> Result<Outcome, AllocError>
+    ensures { IfOk result (λ o. IsLexicalAnswer fault (answer_of o)) }
+{
+    match fault {
+        LexFault::BadByte(place) => placed_fault(alloc, b"BadByte ", place),
+        LexFault::LongNumber(place) => placed_fault(alloc, b"LongNumber ", place),
+        LexFault::OpenComment(place) => placed_fault(alloc, b"OpenComment ", place),
+        LexFault::Memory(fault) => Err(fault),
     }
 }
 
@@ -135,99 +134,26 @@ fn misread(alloc: Global, fault: SyntaxFault) -> Result<Outcome, AllocError>
     }
 }
 
-// The outcome of a text with its proofs.
-fn judge_text(
-    alloc: Global,
-    request: &Request,
-    text: &RawText,
-    proofs: &[RawProof],
-) -> Result<Outcome, AllocError>
-    requires { IsSpelledText text.now }
-    ensures { IfOk result (λ o. IsJudged request.now text.now proofs.now (answer_of o)) }
+// The outcome of a system without verdicts.
+fn unjudged(alloc: Global, fault: JudgeFault) -> Result<Outcome, AllocError>
+    ensures { IfOk result (λ o. IsRefusal (fault.Judge fault) (answer_of o)) }
 {
-    match well_formed(alloc, text) {
-        Ok(system) => {
-            ends_are_more();
-            text_is_typed();
-            judge_system(alloc, request, text, system, proofs)
-        }
-        Err(IllFormed::Fault { code, place }) => coded_fault(alloc, code, place),
-        Err(IllFormed::Memory) => Err(AllocError),
-    }
-}
-
-// The outcome of a text that a system is made of.
-fn judge_system(
-    alloc: Global,
-    request: &Request,
-    _text: &RawText,
-    system: System,
-    proofs: &[RawProof],
-) -> Result<Outcome, AllocError>
-    requires well { IsWell _text.now system }
-    requires typed { Typed system }
-    ensures { IfOk result (λ o. IsJudged request.now _text.now proofs.now (answer_of o)) }
-{
-    match request {
-        Request::List { .. } => list_system(alloc, _text, &system, proofs),
-        Request::Check { .. } => check_system(alloc, _text, system, proofs),
-    }
-}
-
-// The outcome of `list`.
-fn list_system(
-    alloc: Global,
-    _text: &RawText,
-    system: &System,
-    proofs: &[RawProof],
-) -> Result<Outcome, AllocError>
-    requires well { IsWell _text.now system.now }
-    requires typed { Typed system.now }
-    ensures { IfOk result (λ o. (files : List (List ℕ)) → IsJudged (request.List files) _text.now proofs.now (answer_of o)) }
-{
-    match all_obligations(alloc, system) {
-        Ok(list) => listing(alloc, system, &list, proofs),
-        Err(MakeFault::Limit(which)) => limit_fault(alloc, which_word(which)),
-        Err(MakeFault::Memory) => Err(AllocError),
-    }
-}
-
-// The outcome of `check`.
-fn check_system(
-    alloc: Global,
-    _text: &RawText,
-    system: System,
-    proofs: &[RawProof],
-) -> Result<Outcome, AllocError>
-    requires well { IsWell _text.now system }
-    requires typed { Typed system }
-    ensures { IfOk result (λ o. (files : List (List ℕ)) → IsJudged (request.Check files) _text.now proofs.now (answer_of o)) }
-{
-    match judge(alloc, system, proofs) {
-        Ok(judged) => verdict_outcome(alloc, judged.lines()),
-        Err(JudgeFault::Limit(which)) => limit_fault(alloc, which_word(which)),
-        Err(JudgeFault::UnknownProof(name)) => proof_fault(alloc, ProofFault::Unknown(name)),
-        Err(JudgeFault::DoubleProof(name)) => proof_fault(alloc, ProofFault::Double(name)),
-        Err(JudgeFault::Memory) => Err(AllocError),
+    match fault {
+        JudgeFault::Limit(which) => limit_fault(alloc, which_word(which)),
+        JudgeFault::UnknownProof(name) => proof_fault(alloc, b"UnknownProof ", &name),
+        JudgeFault::DoubleProof(name) => proof_fault(alloc, b"DoubleProof ", &name),
+        JudgeFault::Memory => Err(AllocError),
     }
 }
 
 // The obligations, printed.
-fn listing(
-    alloc: Global,
-    system: &System,
-    list: &[Obligation],
-    proofs: &[RawProof],
-) -> Result<Outcome, AllocError>
-    ensures { IfOk result (λ o. (files : List (List ℕ)) → IsAnswered (request.List files) system.now list.now proofs.now (answer_of o)) }
+fn listing(alloc: Global, system: &System, list: &[Obligation]) -> Result<Outcome, AllocError>
+    ensures { IfOk result (λ o. answer_of o ≡ record { status = 0; out = text_of system.now.sets.sets.items list.now; err = [] }) }
 {
-    match places(alloc, list, proofs) {
-        Ok(_) => Ok(Outcome::Text {
-            ending: Ending::Done,
-            text: listing_text(alloc, &system.sets, list)?,
-        }),
-        Err(wrong) => proof_fault(alloc, wrong),
-    }
+    Ok(Outcome::Text {
+        ending: Ending::Done,
+        text: listing_text(alloc, &system.sets, list)?,
+    })
 }
 
 // The outcome of these verdicts.
@@ -243,15 +169,11 @@ fn verdict_outcome(alloc: Global, lines: &[(ObName, Verdict)]) -> Result<Outcome
     Ok(Outcome::Text { ending, text })
 }
 
-// The outcome of a proof that is of no obligation, or of one that an earlier proof is of.
-fn proof_fault(alloc: Global, wrong: ProofFault) -> Result<Outcome, AllocError>
-    ensures { IfOk result (λ o. IsProofAnswer wrong (answer_of o)) }
+// The outcome of a wrong proof of this name.
+fn proof_fault(alloc: Global, code: &[u8], name: &ObName) -> Result<Outcome, AllocError>
+    ensures { IfOk result (λ o. answer_of o ≡ ill_formed code.now (obligation_text name.now)) }
 {
-    match wrong {
-        ProofFault::Unknown(name) => fault(alloc, b"UnknownProof ", &key(alloc, &name)?),
-        ProofFault::Double(name) => fault(alloc, b"DoubleProof ", &key(alloc, &name)?),
-        ProofFault::Memory => Err(AllocError),
-    }
+    fault(alloc, code, &key(alloc, name)?)
 }
 
 // The outcome of a text with a fault of this code.
