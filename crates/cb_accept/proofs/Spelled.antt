@@ -2,7 +2,7 @@
 use Rattle.std.proofs.Common.{ℕ, ◌+◌, ◌-◌, ◌^◌, ◌<◌, ◌≤◌, false, List, [], length, drop, Ok, sym, subst, arith, append-nil}
 use Rattle.std.proofs.lemmas.List.{length-drop}
 use Rattle.cb_lex.specs.Lexes.{Lexes, start}
-use Rattle.cb_lex.specs.declared.TheConstants.{LONGEST_TEXT}
+use Rattle.cb_lex.specs.declared.lexer.TheConstants.{LONGEST_TEXT}
 use Rattle.cb_lex.specs.declared.raw.proof.RawProof.{RawProof}
 use Rattle.cb_lex.specs.declared.raw.text.RawText.{RawText}
 use Rattle.cb_lex.specs.declared.token.Token.{Token}

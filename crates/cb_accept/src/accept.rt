@@ -1,16 +1,17 @@
 //! Texts judged, and what their systems owe.
 
 ghost use Rattle.std.specs.Prelude.{◌≡◌, ◌≤◌, [], length, None, IfOk, IfErr, OnOk};
-ghost use Rattle.cb_lex.specs.declared.TheConstants.{LONGEST_TEXT};
 ghost use Rattle.cb_spec.specs.Typed.{Typed};
 ghost use Rattle.cb_owed.specs.Lists.{AreOwed};
 ghost use Rattle.cb_owed.specs.Limits.{first_limit};
+ghost use Rattle.cb_wp.specs.Limits.{Tells};
 ghost use Rattle.cb_verdicts.specs.Proofs.{keys_of, first_wrong};
 ghost use Rattle.cb_accept.specs.Accepting.{IsRead, IsWell, IsJudgedText, IsListedText, IsTextFault};
 
 use crate::read::{Read, TextFault, read_bytes, system_of};
 use cb_judged::judge::{JudgeFault, judge};
 use cb_judged::judged::Judged;
+use cb_lex::lexer::LONGEST_TEXT;
 use cb_owed::list::all_obligations;
 use cb_seq::sequent::Obligation;
 use cb_spec::system::System;
@@ -101,8 +102,20 @@ fn list_read(
             names_are_owed(alloc, bytes, read, system, &list)?;
             Ok(list)
         }
-        Err(MakeFault::Limit(which)) => Err(TextFault::Judge(JudgeFault::Limit(which))),
-        Err(MakeFault::Memory) => Err(TextFault::Memory),
+        Err(fault) => Err(unlisted(bytes, read, system, fault)),
+    }
+}
+
+// A fault of the list of obligations.
+fn unlisted(_bytes: &[u8], _read: &Read, _system: &System, fault: MakeFault) -> TextFault
+    requires read { IsRead _bytes.now _read.now.text _read.now.proofs }
+    requires well { IsWell _read.now.text _system.now }
+    requires told { Tells fault (first_limit _system.now) }
+    ensures { IsTextFault _bytes.now result }
+{
+    match fault {
+        MakeFault::Limit(which) => TextFault::Judge(JudgeFault::Limit(which)),
+        MakeFault::Memory => TextFault::Memory,
     }
 }
 

@@ -2,7 +2,6 @@
 
 ghost use Rattle.std.specs.Prelude.{◌≤◌, ◌<◌, length, Ok, IfOk, IfErr};
 ghost use Rattle.cb_lex.specs.Lexes.{Lexes, start, IsFirstFault};
-ghost use Rattle.cb_lex.specs.declared.TheConstants.{LONGEST_TEXT};
 ghost use Rattle.cb_spec.specs.Typed.{Typed};
 ghost use Rattle.cb_accept.specs.Accepting.{SpellsText, IsRead, IsWell, IsMisread, IsTextFault};
 
@@ -10,7 +9,7 @@ use cb_cert::reading::proofs;
 use cb_csp_parse::reading::text;
 use cb_grammar::SyntaxFault;
 use cb_judged::judge::JudgeFault;
-use cb_lex::lexer::{LexFault, tokens};
+use cb_lex::lexer::{LONGEST_TEXT, LexFault, tokens};
 use cb_lex::raw::proof::RawProofs;
 use cb_lex::raw::text::RawText;
 use cb_lex::token::{Place, Token};
