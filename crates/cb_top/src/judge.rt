@@ -2,7 +2,7 @@
 ghost use Rattle.std.specs.Prelude.{◌≡◌, ℕ, ◌≤◌, ◌<◌, List, [], length, map, string_bytes, IfOk, IfErr, slice_index_or};
 ghost use Rattle.cb_edge.specs.Edge.{StaysSure};
 ghost use Rattle.cb_trace.specs.Texts.{obligation_text, listing_text as text_of};
-ghost use Rattle.cb_accept.specs.declared.read.TextFault.TheVariants as fault;
+ghost use Rattle.cb_accept.specs.declared.read.TextFault.TheVariants as text_fault;
 ghost use Rattle.cb_top.specs.Change.{sources};
 ghost use Rattle.cb_top.specs.Stop.{HasFileCause};
 ghost use Rattle.cb_words.specs.declared.request.Request.TheVariants as request;
@@ -136,7 +136,7 @@ fn misread(alloc: Global, fault: SyntaxFault) -> Result<Outcome, AllocError>
 
 // The outcome of a system without verdicts.
 fn unjudged(alloc: Global, fault: JudgeFault) -> Result<Outcome, AllocError>
-    ensures { IfOk result (λ o. IsRefusal (fault.Judge fault) (answer_of o)) }
+    ensures { IfOk result (λ o. IsRefusal (text_fault.Judge fault) (answer_of o)) }
 {
     match fault {
         JudgeFault::Limit(which) => limit_fault(alloc, which_word(which)),
