@@ -29,14 +29,14 @@ in_row test (r ∷ row) b e = by (test r) refl b e (in_row test row)
     by false h b e more = on (first_in test row) refl b e more
 
 -- a controller offers a side that passes
-abbrev pub Offers : (Side → Bool) → List (List Side) → ℕ → Type 0
-Offers test rows b = (i : ℕ) × ((s : Side) × (IsOffered rows i b s × (test s ≡ true)))
+abbrev pub AnyOffers : (Side → Bool) → List (List Side) → ℕ → Type 0
+AnyOffers test rows b = (i : ℕ) × ((s : Side) × (IsOffered rows i b s × (test s ≡ true)))
 
-pub first_offered : (test : Side → Bool) (rows : List (List Side)) (b : ℕ) → first_of test rows ≡ Some b → Offers test rows b
+pub first_offered : (test : Side → Bool) (rows : List (List Side)) (b : ℕ) → first_of test rows ≡ Some b → AnyOffers test rows b
 first_offered test [] b e = absurd (cc)
 first_offered test (row ∷ rows) b e = by (first_in test row) refl e (first_offered test rows b)
   where
-    by : (o : Option ℕ) → first_in test row ≡ o → or_else o (first_of test rows) ≡ Some b → (first_of test rows ≡ Some b → Offers test rows b) → Offers test (row ∷ rows) b
+    by : (o : Option ℕ) → first_in test row ≡ o → or_else o (first_of test rows) ≡ Some b → (first_of test rows ≡ Some b → AnyOffers test rows b) → AnyOffers test (row ∷ rows) b
     by None is e more = (let m = more e in (suc m.0, (m.1.0, m.1.1)))
     by (Some n) is e more = (let p = in_row test row b (is ∙ e) in (zero, (p.0, (p.1.0, p.1.1))))
 

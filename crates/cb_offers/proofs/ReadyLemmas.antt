@@ -1,7 +1,7 @@
 -- What a table's counts and marks say of what can fire.
-use Rattle.std.proofs.Common.{◌≡◌, ◌≢◌, ℕ, zero, suc, ◌+◌, ◌<◌, ◌≤◌, Bool, true, false, ltb, Option, Some, None, unwrap_or, List, [], ◌∷◌, ◌++◌, ◌^◌, length, slice_get, set, sum_by, replicate, refl, sym, ap, subst, ◌∙◌, arith}
-use Rattle.std.proofs.lemmas.Bool.{ltb-true, ltb-false}
-use Rattle.std.proofs.lemmas.Option.{slice_get_within}
+use Rattle.std.proofs.Common.{◌≡◌, ◌≢◌, ℕ, zero, suc, ◌+◌, ◌<◌, ◌≤◌, Bool, true, false, ltb, eqb, Option, Some, None, unwrap_or, List, [], ◌∷◌, ◌++◌, ◌^◌, length, slice_get, set, sum_by, replicate, refl, sym, ap, subst, ◌∙◌, arith}
+use Rattle.std.proofs.lemmas.Bool.{ltb-true, ltb-false, eqb-true, eqb-false}
+use Rattle.std.proofs.lemmas.Option.{slice_get_within, same_Some}
 use Rattle.std.proofs.lemmas.List.Sums.{sum_by-cons}
 use Rattle.cb_offers.specs.declared.offers.Side.{Side}
 use Rattle.cb_offers.specs.declared.offers.Side.TheVariants.{Output, Input, Call}
@@ -198,3 +198,17 @@ new_table channels controllers table few_channels few_controllers fresh as_many 
   as_many = as_many;
   rows = rows;
 }
+
+-- ---- a row that is searched
+
+pub none_yet : (channels : List Channel) (row : List Side) (low : ℕ) → NoneReady channels row low low
+none_yet channels row low k s from below at ready = absurd (omega (arith, from, below))
+
+pub none_more : (channels : List Channel) (row : List Side) (low i : ℕ) (side : Side) → NoneReady channels row low i → slice_get row i ≡ Some side → (Ready channels side → ⊥) → NoneReady channels row low (i + 1)
+none_more channels row low i side none here no k s from below at = by (eqb k i) refl
+  where
+    by : (yes : Bool) → eqb k i ≡ yes → Ready channels s → ⊥
+    by true e ready =
+        let same : slice_get row k ≡ slice_get row i = ap (slice_get row) (eqb-true k i e) in
+        no (subst (Ready channels) (sym (same_Some side s (sym here ∙ sym same ∙ at))) ready)
+    by false e ready = none k s from (let apart = eqb-false k i e in omega (arith, below, apart)) at ready
