@@ -3,3 +3,4 @@ pub mod MarkLemmas
 pub mod MeetLemmas
 pub mod ReadyLemmas
 pub mod TableLemmas
+pub mod ViewLemmas

@@ -41,33 +41,33 @@ first_offered test (row ∷ rows) b e = by (first_in test row) refl e (first_off
     by (Some n) is e more = (let p = in_row test row b (is ∙ e) in (zero, (p.0, (p.1.0, p.1.1))))
 
 none_in : (test : Side → Bool) (row : List Side) (b : ℕ) (s : Side) → slice_get row b ≡ Some s → test s ≡ true → first_in test row ≢ None
-none_in test [] b s at yes e = absurd (cc)
-none_in test (r ∷ row) zero s at yes e =
+none_in test [] b s at pass e = absurd (cc)
+none_in test (r ∷ row) zero s at pass e =
     let same : r ≡ s = grind arith in
-    let here : test r ≡ true = ap test same ∙ yes in
+    let here : test r ≡ true = ap test same ∙ pass in
     let some : first_in test (r ∷ row) ≡ Some 0 = ap (λ t. if t then Some 0 else next (first_in test row)) here in
     absurd (cc)
-none_in test (r ∷ row) (suc b) s at yes e = by (test r) e (none_in test row b s at yes)
+none_in test (r ∷ row) (suc b) s at pass e = by (test r) e (none_in test row b s at pass)
   where
     on : (o : Option ℕ) → next o ≡ None → o ≡ None
     on None e = refl
     on (Some n) e = absurd (cc)
     by : (t : Bool) → (if t then Some 0 else next (first_in test row)) ≡ None → (first_in test row ≡ None → ⊥) → ⊥
-    by true e no = absurd (cc)
-    by false e no = no (on (first_in test row) e)
+    by true e never = absurd (cc)
+    by false e never = never (on (first_in test row) e)
 
 pub none_offered : (test : Side → Bool) (rows : List (List Side)) (i b : ℕ) (s : Side) → IsOffered rows i b s → test s ≡ true → first_of test rows ≢ None
-none_offered test [] i b s at yes e = absurd (cc)
-none_offered test (row ∷ rows) zero b s at yes e = by (first_in test row) e (none_in test row b s at yes)
+none_offered test [] i b s at pass e = absurd (cc)
+none_offered test (row ∷ rows) zero b s at pass e = by (first_in test row) e (none_in test row b s at pass)
   where
     by : (o : Option ℕ) → or_else o (first_of test rows) ≡ None → (o ≡ None → ⊥) → ⊥
-    by None e no = no refl
-    by (Some n) e no = absurd (cc)
-none_offered test (row ∷ rows) (suc i) b s at yes e = by (first_in test row) e (none_offered test rows i b s at yes)
+    by None e never = never refl
+    by (Some n) e never = absurd (cc)
+none_offered test (row ∷ rows) (suc i) b s at pass e = by (first_in test row) e (none_offered test rows i b s at pass)
   where
     by : (o : Option ℕ) → or_else o (first_of test rows) ≡ None → (first_of test rows ≡ None → ⊥) → ⊥
-    by None e no = no e
-    by (Some n) e no = absurd (cc)
+    by None e never = never e
+    by (Some n) e never = absurd (cc)
 
 sends_only : (k : ℕ) (s : Side) → sends k s ≡ true → s ≡ Output k
 sends_only k (Output j) e = ap Output (eqb-true j k e)

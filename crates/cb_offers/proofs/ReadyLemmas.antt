@@ -1,6 +1,6 @@
 -- What a table's counts and marks say of what can fire.
-use Rattle.std.proofs.Common.{◌≡◌, ◌≢◌, ℕ, zero, suc, ◌+◌, ◌<◌, ◌≤◌, Bool, true, false, ltb, eqb, Option, Some, None, unwrap_or, List, [], ◌∷◌, ◌++◌, ◌^◌, length, slice_get, set, sum_by, replicate, refl, sym, ap, subst, ◌∙◌, arith}
-use Rattle.std.proofs.lemmas.Bool.{ltb-true, ltb-false, eqb-true, eqb-false}
+use Rattle.std.proofs.Common.{◌≡◌, ◌≢◌, ℕ, zero, suc, ◌+◌, ◌<◌, ◌≤◌, Bool, true, false, ltb, eqb, Option, Some, None, MatchOption, MatchBool, unwrap_or, List, [], ◌∷◌, ◌++◌, ◌^◌, length, slice_get, set, sum_by, replicate, refl, sym, ap, subst, ◌∙◌, arith}
+use Rattle.std.proofs.lemmas.Bool.{lt-ltb, ltb-true, ltb-false, eqb-true, eqb-false}
 use Rattle.std.proofs.lemmas.Option.{slice_get_within, same_Some}
 use Rattle.std.proofs.lemmas.List.Sums.{sum_by-cons}
 use Rattle.cb_offers.specs.declared.offers.Side.{Side}
@@ -63,9 +63,9 @@ module _ (table : Table) (kept : IsKept table) where
   ready_fires Call ready = tt
 
   pub unready_rests : (s : Side) → (Ready table.channels.items s → ⊥) → Fires (rows_of table) s → ⊥
-  unready_rests (Output k) no fires = fires (unmet_meets k no)
-  unready_rests (Input k) no fires = fires (unmet_meets k no)
-  unready_rests Call no fires = no tt
+  unready_rests (Output k) never fires = fires (unmet_meets k never)
+  unready_rests (Input k) never fires = fires (unmet_meets k never)
+  unready_rests Call never fires = never tt
 
 -- ---- counts
 
@@ -205,10 +205,32 @@ pub none_yet : (channels : List Channel) (row : List Side) (low : ℕ) → NoneR
 none_yet channels row low k s from below at ready = absurd (omega (arith, from, below))
 
 pub none_more : (channels : List Channel) (row : List Side) (low i : ℕ) (side : Side) → NoneReady channels row low i → slice_get row i ≡ Some side → (Ready channels side → ⊥) → NoneReady channels row low (i + 1)
-none_more channels row low i side none here no k s from below at = by (eqb k i) refl
+none_more channels row low i side none here never k s from below at = by (eqb k i) refl
   where
-    by : (yes : Bool) → eqb k i ≡ yes → Ready channels s → ⊥
+    by : (pass : Bool) → eqb k i ≡ pass → Ready channels s → ⊥
     by true e ready =
         let same : slice_get row k ≡ slice_get row i = ap (slice_get row) (eqb-true k i e) in
-        no (subst (Ready channels) (sym (same_Some side s (sym here ∙ sym same ∙ at))) ready)
+        never (subst (Ready channels) (sym (same_Some side s (sym here ∙ sym same ∙ at))) ready)
     by false e ready = none k s from (let apart = eqb-false k i e in omega (arith, below, apart)) at ready
+
+-- what two searches of the controller's row tell, the second made where the first finds nothing
+module _ (table : Table) (kept : IsKept table) (channels : List Channel) (same : channels ≡ table.channels.items) (c : ℕ) (row : List Side) (is : row_at table c ≡ row) where
+  pub ready_found : (b : ℕ) → IsReadyAt channels row b → IsFiring (rows_of table) c (Some b)
+  ready_found b ready = found_fires table kept c b row is (subst (λ l. IsReadyAt l row b) same ready)
+
+  pub ready_or_none : (start : ℕ) (o : Option ℕ) → NoneReady channels row start (length row) → MatchOption o (NoneReady channels row 0 start) (IsReadyAt channels row) → IsFiring (rows_of table) c o
+  ready_or_none start None late early = none_fires table kept c start row is (subst (λ l. NoneReady l row start (length row)) same late) (subst (λ l. NoneReady l row 0 start) same early)
+  ready_or_none start (Some b) late found = ready_found b found
+
+-- ---- whether anything can happen, for contracts that see `rows`
+
+module _ (table : Table) (kept : IsKept table) (rows : List (List Side)) (is : rows_of table ≡ rows) where
+  pub told_by_met : 0 < table.met → MatchBool (ltb 0 table.met) (AreIdle rows → ⊥) (AreIdle rows)
+  told_by_met l = subst (λ b. MatchBool b (AreIdle rows → ⊥) (AreIdle rows)) (sym (lt-ltb 0 table.met l)) (subst (λ (r : List (List Side)). AreIdle r → ⊥) is (met_fires table kept l))
+
+  pub told_by_calls : table.met ≤ 0 → MatchBool (ltb 0 table.calls) (AreIdle rows → ⊥) (AreIdle rows)
+  told_by_calls none = by (ltb 0 table.calls) refl
+    where
+      by : (b : Bool) → ltb 0 table.calls ≡ b → MatchBool b (AreIdle rows → ⊥) (AreIdle rows)
+      by true e = subst (λ (r : List (List Side)). AreIdle r → ⊥) is (call_fires table kept (ltb-true 0 table.calls e))
+      by false e = (let few = ltb-false 0 table.calls e in subst AreIdle is (all_idle table kept (omega (arith, none)) (omega (arith, few))))

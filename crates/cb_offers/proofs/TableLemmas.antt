@@ -163,9 +163,9 @@ module _ (old : Table) (c : ℕ) (side : Side) (row : Row) (n : ℕ) (kept : IsK
 
   fits_at : (t : Side) → t ≡ side → tests t t ≡ true → length (put_mark (mark c n) (list_at old.channels.items side)) ≤ room_at old.channels.items side
   fits_at t same own =
-      let yes : tests t side ≡ true = subst (λ s. tests t s ≡ true) same own in
+      let pass : tests t side ≡ true = subst (λ s. tests t s ≡ true) same own in
       let e : put_mark (mark c n) (list_at old.channels.items side) ≡ marks_from 0 (tests t) (set (rows_of old) c (row.items ++ side ∷ [])) =
-          ap (λ b. if b then put_mark (mark c n) (list_at old.channels.items side) else list_at old.channels.items t) (sym yes) ∙ put_fits t in
+          ap (λ b. if b then put_mark (mark c n) (list_at old.channels.items side) else list_at old.channels.items t) (sym pass) ∙ put_fits t in
       let room : HasMarkRoom old c t = subst (HasMarkRoom old c) (sym same) can.marks in
       let r : room_at old.channels.items t ≡ room_at old.channels.items side = ap (room_at old.channels.items) same in
       omega (arith, ap (λ (l : List Mark). length l) e, one_more (tests t) (rows_of old) 0 c (row.items ++ side ∷ []), room, r)
@@ -310,7 +310,7 @@ module _ (a b : Table) (side : Side) (kept : IsKept a) (changed : Changed a.chan
   same_lists : (t : Side) → list_at b.channels.items t ≡ list_at a.channels.items t
   same_lists t = changed.lists t ∙ same_list a.channels.items t side (λ l. l) ∙ by (tests t side)
     where
-      by : (yes : Bool) → (if yes then list_at a.channels.items t else list_at a.channels.items t) ≡ list_at a.channels.items t
+      by : (pass : Bool) → (if pass then list_at a.channels.items t else list_at a.channels.items t) ≡ list_at a.channels.items t
       by true = refl
       by false = refl
 
@@ -406,7 +406,7 @@ module _ (a b d : Table) (c : ℕ) (side : Side) (range : c < length (rows_of a)
   pub reserve_below : (sides : List Side) (i : ℕ) → HasRoomBelow b c sides i → slice_get sides i ≡ Some side → length (list_at b.channels.items side) < room_at d.channels.items side → HasRoomBelow d c sides (i + 1)
   reserve_below sides i below here room k t l at = by (eqb k i) refl
     where
-      by : (yes : Bool) → eqb k i ≡ yes → HasMarkRoom d c t
+      by : (pass : Bool) → eqb k i ≡ pass → HasMarkRoom d c t
       by true e =
           let same : slice_get sides k ≡ slice_get sides i = ap (slice_get sides) (eqb-true k i e) in
           let s : side ≡ t = same_Some side t (sym here ∙ sym same ∙ at) in
@@ -439,3 +439,27 @@ module _ (a b : Table) (c : ℕ) (sides : List Side) (i : ℕ) (side : Side) (ra
       let e : row_at b c ++ side ∷ [] ≡ take (i + 1) sides =
           ap (λ (l : List Side). l ++ side ∷ []) (row_after a b c (take i sides) steps range) ∙ ap (λ s. take i sides ++ s ∷ []) (sym (get_or_from_slice_get sides i side side here)) ∙ sym (take_more sides i side in_sides) in
       subst (Steps c a d) e (steps_on a b d c (take i sides) (row_at b c ++ side ∷ []) steps more)
+
+pub side_at : (sides : List Side) (i : ℕ) → i < length sides → slice_get sides i ≡ Some (get_or sides i (Output 0))
+side_at sides i l = slice_get-get_or sides i (Output 0) l
+
+pub there_after : (a b : Table) (c : ℕ) (row sides : List Side) (i : ℕ) → Steps c a b row → AreWithin (length a.channels.items) sides → i < length sides → IsThere (length b.channels.items) (get_or sides i (Output 0))
+there_after a b c row sides i steps within l = subst (λ n. IsThere n (get_or sides i (Output 0))) (sym steps.as_many) (side_there (length a.channels.items) sides i (get_or sides i (Output 0)) within (side_at sides i l))
+
+pub reserved_room : (a : Table) (c n : ℕ) (row' : Row) → c < length (rows_of a) → vec_len row' + n ≤ vec_capacity row' → n ≤ row_room_in (slice_get (set a.rows.items c row') c)
+reserved_room a c n row' range room =
+    let l : c < length a.rows.items = omega (arith, range, length-map a.rows.items items) in
+    let e : row_room_in (slice_get (set a.rows.items c row') c) ≡ vec_capacity row' = ap row_room_in (get_set_same a.rows.items c row' l) in
+    omega (arith, room, e)
+
+-- the row of a controller, as a slice that was taken of it
+module _ (table : Table) (c : ℕ) (row : Row) (slice : List Side) (kept : IsKept table) (range : c < length (rows_of table)) (at : row ≡ get_or table.rows.items c row) (same : slice ≡ row.items) where
+  pub slice_is : row_at table c ≡ slice
+  slice_is = row_is table c row range at ∙ sym same
+
+  pub slice_few : length slice < 2 ^ 32
+  slice_few = (subst (IsRow (length table.channels.items)) slice_is (row_in (length table.channels.items) (rows_of table) c kept.within)).1
+
+  pub slice_within : (channels : List Channel) → channels ≡ table.channels.items → AreWithin (length channels) slice
+  slice_within channels e =
+      subst (λ (l : List Channel). AreWithin (length l) slice) (sym e) (subst (IsRow (length table.channels.items)) slice_is (row_in (length table.channels.items) (rows_of table) c kept.within)).0

@@ -3,5 +3,5 @@ use Rattle.std.specs.declared.alloc.Global.{Global}
 use Rattle.cb_offers.specs.declared.offers.Side.{Side}
 use Rattle.cb_offers.proofs.table.empty_rows.Given as goal
 
-abbrev pub invariant-loop-_number : goal.invariant-loop-_number
-invariant-loop-_number l = map (λ (row : Vec Side Global). row.items) l.rows.items ≡ replicate l._number []
+abbrev pub invariant-loop-number : goal.invariant-loop-number
+invariant-loop-number l = map (λ (row : Vec Side Global). row.items) l.rows.items ≡ replicate l._number []
