@@ -1,5 +1,5 @@
 -- Who meets on a channel, by what rows offer.
-use Rattle.std.proofs.Common.{◌≡◌, ◌≢◌, ℕ, zero, suc, ◌+◌, ◌<◌, ◌≤◌, Bool, true, false, eqb, if◌then◌else◌, Option, Some, None, unwrap_or, List, [], ◌∷◌, length, slice_get, set, sum_by, refl, sym, ap, subst, ◌∙◌, arith, eq-eqb}
+use Rattle.std.proofs.Common.{◌≡◌, ◌≢◌, ℕ, zero, suc, ◌+◌, ◌<◌, ◌≤◌, Bool, true, false, eqb, if◌then◌else◌, Option, Some, None, unwrap_or, List, [], ◌∷◌, length, slice_get, set, replicate, refl, sym, ap, subst, ◌∙◌, arith, eq-eqb}
 use Rattle.std.proofs.lemmas.Bool.{eqb-true}
 use Rattle.std.proofs.lemmas.Option.{some_pair_parts}
 use Rattle.cb_offers.specs.declared.offers.Side.{Side}
@@ -117,3 +117,15 @@ offered_other rows i j b row s apart at = ap (λ o. slice_get (unwrap_or o []) b
 
 pub other_offered : (rows : List (List Side)) (i j b : ℕ) (row : List Side) (s : Side) → (i ≡ j → ⊥) → IsOffered (set rows i row) j b s → IsOffered rows j b s
 other_offered rows i j b row s apart at = sym (ap (λ o. slice_get (unwrap_or o []) b) (get_set_other rows i j row apart)) ∙ at
+
+-- ---- where nothing is offered
+
+pub offered_within : (rows : List (List Side)) (i b : ℕ) (s : Side) → IsOffered rows i b s → i < length rows
+offered_within [] i b s at = absurd (cc)
+offered_within (row ∷ rows) zero b s at = omega arith
+offered_within (row ∷ rows) (suc i) b s at = omega (arith, offered_within rows i b s at)
+
+pub none_in_empty : (n i b : ℕ) (s : Side) → IsOffered (replicate n []) i b s → ⊥
+none_in_empty zero i b s at = absurd (cc)
+none_in_empty (suc n) zero b s at = absurd (cc)
+none_in_empty (suc n) (suc i) b s at = none_in_empty n i b s at

@@ -9,7 +9,7 @@ use crate::marks::Mark;
 use crate::offers::Side;
 use std::alloc::AllocError;
 
-/// Who offers to send on a channel and who to receive, in the order of controllers.
+/// Who offers to send on a channel and who to receive, each in the order of controllers.
 #[derive(Drop)]
 pub struct Channel {
     pub senders: Vec<Mark>,

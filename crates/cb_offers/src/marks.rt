@@ -3,10 +3,12 @@
 ghost use Rattle.std.specs.Prelude.{◌≡◌, ◌≤◌, length, vec_capacity, IfOk, IfErr};
 ghost use Rattle.cb_offers.specs.Marks.{put_mark, take_mark, IsHere, IsGap};
 
-/// A controller, and the first of its branches that the list is of.
+/// A controller that offers this end of the channel.
 #[derive(Clone, Copy, Debug)]
 pub struct Mark {
+    /// Its number.
     pub controller: u32,
+    /// The first of its branches that does.
     pub branch: u32,
 }
 

@@ -43,7 +43,7 @@ impl Model for Offers {
 }
 
 impl Offers {
-    /// Channels with these numbers of channels and of controllers, none of which offers anything. `Err`: want of memory.
+    /// So many channels and controllers, none of which offers anything. `Err`: want of memory.
     pub fn new(alloc: Global, channels: u32, controllers: u32) -> Result<Offers, AllocError>
         ensures { IfOk result (λ o. o ≡ record { channels = channels; rows = replicate controllers [] }) }
     {
@@ -51,7 +51,8 @@ impl Offers {
         Ok(Offers { table })
     }
 
-    /// Replaces what the controller offers. `Err`: want of memory, after which all is as before.
+    /// Replaces what the controller offers. Its time depends on the old row and on the new one alone, where few share their
+    /// channels. `Err`: want of memory, after which all is as before.
     pub fn set(&mut self, controller: u32, sides: &[Side]) -> Result<(), AllocError>
         requires range { controller < length self.old.rows }
         requires within { AreWithin self.old.channels sides.now }
@@ -62,7 +63,7 @@ impl Offers {
         self.table.set(controller, sides)
     }
 
-    /// The controller offers nothing any more. It takes no memory.
+    /// Lets the controller offer nothing any more. It takes no memory.
     pub fn clear(&mut self, controller: u32)
         requires { controller < length self.old.rows }
         ensures { self.new ≡ record { channels = self.old.channels; rows = slice_set self.old.rows controller [] } }
@@ -70,7 +71,8 @@ impl Offers {
         self.table.clear(controller);
     }
 
-    /// The branches that meet on the channel, the sender's and the receiver's, if both ends are offered.
+    /// The branches that meet on the channel, if both ends are offered: that of the least controller that sends, and that of the
+    /// least that receives, at each its first. It takes constant time.
     pub fn meet(&self, channel: u32) -> Option<(u32, u32)>
         requires { channel < self.now.channels }
         ensures { result ≡ meeting self.now.rows channel }
@@ -81,7 +83,7 @@ impl Offers {
         Some((sender.branch, receiver.branch))
     }
 
-    /// A branch of the controller that can fire: the first from the branch `from` on, going round.
+    /// A branch of the controller that can fire, if it has one: the first from the branch `from` on, going round.
     pub fn firing(&self, controller: u32, from: u32) -> Option<u32>
         requires { controller < length self.now.rows }
         ensures { IsFiring self.now.rows controller result }
@@ -89,7 +91,7 @@ impl Offers {
         self.table.firing(controller, from)
     }
 
-    /// Whether anything can happen.
+    /// Whether anything can happen: a call is offered, or both ends of some channel. It takes constant time.
     pub fn can_fire(&self) -> bool
         ensures { MatchBool result (¬ AreIdle self.now.rows) (AreIdle self.now.rows) }
     {

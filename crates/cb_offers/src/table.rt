@@ -97,7 +97,7 @@ impl Table {
         })
     }
 
-    // Adds a branch to the controller's row.
+    // Adds a branch to the controller's row. There is room for all that this wants.
     fn offer(&mut self, controller: u32, side: Side)
         requires kept { IsKept self.old }
         requires can { CanOffer self.old controller side }
@@ -130,7 +130,7 @@ impl Table {
         self.calls -= call_of(side);
     }
 
-    /// Makes the controller's row empty.
+    /// Makes the controller's row empty. From its end on, a mark goes with the branch that it tells, and no other takes its place.
     pub fn clear(&mut self, controller: u32)
         requires kept { IsKept self.old }
         requires range { controller < length (rows_of self.old) }
@@ -158,7 +158,7 @@ impl Table {
         Ok(())
     }
 
-    /// Gives the controller this row. After want of memory the rows are as before.
+    /// Gives the controller this row. All memory is taken first, so that after want of it the rows are as before.
     pub fn set(&mut self, controller: u32, sides: &[Side]) -> Result<(), AllocError>
         requires kept { IsKept self.old }
         requires range { controller < length (rows_of self.old) }
