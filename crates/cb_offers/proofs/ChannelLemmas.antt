@@ -1,11 +1,10 @@
 -- Channels, one of which is changed at one end.
-use Rattle.std.proofs.Common.{◌≡◌, ℕ, zero, suc, ◌+◌, ◌*◌, ◌<◌, ◌≤◌, Bool, true, false, eqb, if◌then◌else◌, Option, Some, None, List, [], ◌∷◌, length, slice_get, get_or, set, sum_by, Vec, vec_len, vec_capacity, All, refl, sym, ap, subst, ◌∙◌, arith, eq-eqb}
-use Rattle.std.specs.Prelude.{⊤}
+use Rattle.std.proofs.Common.{◌≡◌, ℕ, zero, suc, ◌+◌, ◌<◌, ◌≤◌, Bool, true, false, eqb, if◌then◌else◌, Option, Some, List, [], ◌∷◌, length, slice_get, get_or, set, Vec, vec_len, vec_capacity, refl, sym, ap, subst, ◌∙◌, arith}
 use Rattle.std.specs.declared.alloc.Global.{Global}
 use Rattle.std.proofs.lemmas.Bool.{eqb-true, eqb-false}
 use Rattle.std.proofs.lemmas.List.{length-set}
 use Rattle.std.proofs.lemmas.List.Sums.{sum_by-set, sum_by-cons}
-use Rattle.std.proofs.lemmas.Option.{slice_get_read, slice_get_past, slice_get-get_or, get_or_from_slice_get}
+use Rattle.std.proofs.lemmas.Option.{slice_get_read}
 use Rattle.cb_offers.specs.declared.offers.Side.{Side}
 use Rattle.cb_offers.specs.declared.offers.Side.TheVariants.{Output, Input, Call}
 use Rattle.cb_offers.specs.declared.marks.Mark.{Mark}
@@ -87,6 +86,7 @@ module _ (channels : List Channel) (k : ℕ) (old new : Channel) (within : k < l
       lists (Output j) = one_each senders_of (f (list_at channels (Output k))) (items ∙ sym (ap (λ o. f (senders_of o)) old_at)) j
       lists (Input j) = same_each receivers_of (ap (λ (v : Vec Mark Global). v.items) same) j
       lists Call = refl
+
       rooms : (t : Side) → room_at channels t ≤ room_at (set channels k new) t
       rooms (Output j) = no_less_each senders_room room j
       rooms (Input j) = (let e : vec_capacity new.receivers ≡ vec_capacity old.receivers = ap (λ (v : Vec Mark Global). vec_capacity v) same in no_less_each receivers_room (omega (arith, e)) j)
@@ -105,6 +105,7 @@ module _ (channels : List Channel) (k : ℕ) (old new : Channel) (within : k < l
       lists (Output j) = same_each senders_of (ap (λ (v : Vec Mark Global). v.items) same) j
       lists (Input j) = one_each receivers_of (f (list_at channels (Input k))) (items ∙ sym (ap (λ o. f (receivers_of o)) old_at)) j
       lists Call = refl
+
       rooms : (t : Side) → room_at channels t ≤ room_at (set channels k new) t
       rooms (Output j) = (let e : vec_capacity new.senders ≡ vec_capacity old.senders = ap (λ (v : Vec Mark Global). vec_capacity v) same in no_less_each senders_room (omega (arith, e)) j)
       rooms (Input j) = no_less_each receivers_room room j

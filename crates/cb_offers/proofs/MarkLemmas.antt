@@ -1,7 +1,7 @@
 -- Marks put in and taken out, and what that says of rows.
-use Rattle.std.proofs.Common.{◌≡◌, ℕ, zero, suc, ◌+◌, ◌<◌, ◌≤◌, Bool, true, false, ltb, eqb, ◌&&◌, if◌then◌else◌, Option, Some, None, List, [], ◌∷◌, ◌++◌, length, slice_get, get_or, set, refl, sym, ap, subst, ◌∙◌, arith, eq-eqb}
+use Rattle.std.proofs.Common.{◌≡◌, ℕ, zero, suc, ◌+◌, ◌<◌, ◌≤◌, Bool, true, false, ltb, if◌then◌else◌, Option, Some, None, List, [], ◌∷◌, ◌++◌, length, slice_get, get_or, set, refl, sym, ap, subst, ◌∙◌, arith, eq-eqb}
 use Rattle.std.specs.Prelude.{⊤}
-use Rattle.std.proofs.lemmas.Bool.{lt-ltb, le-ltb, ne_eqb, eqb-true}
+use Rattle.std.proofs.lemmas.Bool.{lt-ltb, le-ltb, ne_eqb}
 use Rattle.std.specs.List.{insert, remove, HoldsAt, AllWithin}
 use Rattle.cb_offers.specs.declared.offers.Side.{Side}
 use Rattle.cb_offers.specs.declared.marks.Mark.{Mark}
@@ -104,6 +104,7 @@ first_push test (r ∷ row) s = by (test r) (first_push test row s)
     ends : (b : Bool) → next (if b then Some (length row) else None) ≡ (if b then Some (suc (length row)) else None)
     ends true = refl
     ends false = refl
+
     by : (b : Bool) → first_in test (row ++ s ∷ []) ≡ or_else (first_in test row) (if test s then Some (length row) else None) → (if b then Some 0 else next (first_in test (row ++ s ∷ []))) ≡ or_else (if b then Some 0 else next (first_in test row)) (if test s then Some (suc (length row)) else None)
     by true e = refl
     by false e = ap next e ∙ next_or (first_in test row) (if test s then Some (length row) else None) ∙ ap (or_else (next (first_in test row))) (ends (test s))

@@ -1,10 +1,10 @@
 -- Who meets on a channel, by what rows offer.
-use Rattle.std.proofs.Common.{◌≡◌, ◌≢◌, ℕ, zero, suc, ◌+◌, ◌<◌, ◌≤◌, Bool, true, false, eqb, if◌then◌else◌, Option, Some, None, unwrap_or, List, [], ◌∷◌, length, slice_get, set, replicate, refl, sym, ap, subst, ◌∙◌, arith, eq-eqb}
+use Rattle.std.proofs.Common.{◌≡◌, ◌≢◌, ℕ, zero, suc, ◌<◌, Bool, true, false, if◌then◌else◌, Option, Some, None, unwrap_or, List, [], ◌∷◌, length, slice_get, set, replicate, refl, sym, ap, subst, ◌∙◌, arith, eq-eqb}
 use Rattle.std.proofs.lemmas.Bool.{eqb-true}
 use Rattle.std.proofs.lemmas.Option.{some_pair_parts}
 use Rattle.cb_offers.specs.declared.offers.Side.{Side}
 use Rattle.cb_offers.specs.declared.offers.Side.TheVariants.{Output, Input, Call}
-use Rattle.cb_offers.specs.Tables.{sends, receives, next, first_in, or_else, first_of, both, meeting, Fires, IsOffered, IsIdle, AreIdle}
+use Rattle.cb_offers.specs.Tables.{sends, receives, next, first_in, or_else, first_of, both, meeting, IsOffered}
 use Rattle.cb_offers.proofs.ChannelLemmas.{get_set_same, get_set_other}
 
 -- ---- a side that passes a test
@@ -22,6 +22,7 @@ in_row test (r ∷ row) b e = by (test r) refl b e (in_row test row)
     on (Some n) is b e more =
         let same : suc n ≡ b = grind arith in
         subst (Passes test (r ∷ row)) same (more n is)
+
     by : (t : Bool) → test r ≡ t → (b : ℕ) → (if t then Some 0 else next (first_in test row)) ≡ Some b → ((b : ℕ) → first_in test row ≡ Some b → Passes test row b) → Passes test (r ∷ row) b
     by true h b e more =
         let same : 0 ≡ b = grind arith in
@@ -52,6 +53,7 @@ none_in test (r ∷ row) (suc b) s at pass e = by (test r) e (none_in test row b
     on : (o : Option ℕ) → next o ≡ None → o ≡ None
     on None e = refl
     on (Some n) e = absurd (cc)
+
     by : (t : Bool) → (if t then Some 0 else next (first_in test row)) ≡ None → (first_in test row ≡ None → ⊥) → ⊥
     by true e never = absurd (cc)
     by false e never = never (on (first_in test row) e)

@@ -1,5 +1,5 @@
 -- What a table's counts and marks say of what can fire.
-use Rattle.std.proofs.Common.{◌≡◌, ◌≢◌, ℕ, zero, suc, ◌+◌, ◌<◌, ◌≤◌, Bool, true, false, ltb, eqb, Option, Some, None, MatchOption, MatchBool, unwrap_or, List, [], ◌∷◌, ◌++◌, ◌^◌, length, slice_get, set, sum_by, replicate, refl, sym, ap, subst, ◌∙◌, arith}
+use Rattle.std.proofs.Common.{◌≡◌, ◌≢◌, ℕ, zero, suc, ◌+◌, ◌<◌, ◌≤◌, Bool, true, false, ltb, eqb, Option, Some, None, MatchOption, MatchBool, List, [], ◌∷◌, ◌++◌, ◌^◌, length, slice_get, sum_by, replicate, refl, sym, ap, subst, ◌∙◌, arith}
 use Rattle.std.proofs.lemmas.Bool.{lt-ltb, ltb-true, ltb-false, eqb-true, eqb-false}
 use Rattle.std.proofs.lemmas.Option.{slice_get_within, same_Some}
 use Rattle.std.proofs.lemmas.List.Sums.{sum_by-cons}
@@ -10,7 +10,7 @@ use Rattle.cb_offers.specs.declared.channels.Channel.{Channel}
 use Rattle.cb_offers.specs.declared.table.Table.{Table}
 use Rattle.cb_offers.specs.Tables.{sends, receives, first_in, or_else, first_of, both, meeting, Fires, IsOffered, IsIdle, AreIdle, IsFiring}
 use Rattle.cb_offers.specs.Marks.{mark_on, marks_from}
-use Rattle.cb_offers.specs.Kept.{tests, senders_of, receivers_of, list_at, both_of, met_of, met_in, met_at, met_count, Changed, call_of, calls_in, rows_of, row_at, AreRows, IsKept, Steps, Ready, NoneReady, IsReadyAt, AreFresh, IsNew}
+use Rattle.cb_offers.specs.Kept.{tests, senders_of, receivers_of, list_at, both_of, met_of, met_in, met_count, call_of, calls_in, rows_of, row_at, AreRows, IsKept, Ready, NoneReady, IsReadyAt, AreFresh, IsNew}
 use Rattle.cb_offers.proofs.ChannelLemmas.{met_at_part, tests_same}
 use Rattle.cb_offers.proofs.MeetLemmas.{first_offered}
 
@@ -143,6 +143,7 @@ module _ (table : Table) (kept : IsKept table) where
     where
       at_row : slice_get row b ≡ Some side
       at_row = ap (λ (r : List Side). slice_get r b) (sym is) ∙ at
+
       by : (t : Bool) → ltb b start ≡ t → Ready table.channels.items side → ⊥
       by true e = early b side (omega arith) (ltb-true b start e) at_row
       by false e = late b side (ltb-false b start e) (slice_get_within row b side at_row) at_row

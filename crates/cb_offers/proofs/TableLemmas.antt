@@ -1,6 +1,5 @@
 -- A table, one row of which is another.
 use Rattle.std.proofs.Common.{◌≡◌, ℕ, zero, suc, ◌+◌, ◌-◌, ◌*◌, ◌^◌, ◌<◌, ◌≤◌, Bool, true, false, eqb, if◌then◌else◌, Option, Some, None, unwrap_or, List, [], ◌∷◌, ◌++◌, map, length, take, slice_get, get_or, set, sum_by, Vec, vec_len, vec_capacity, option_map, refl, sym, ap, subst, ◌∙◌, arith, eq-eqb, length-append}
-use Rattle.std.specs.Prelude.{⊤}
 use Rattle.std.specs.declared.alloc.Global.{Global}
 use Rattle.std.proofs.lemmas.Bool.{eqb-true, eqb-false}
 use Rattle.std.proofs.lemmas.List.{length-set, map-set, set-set, set-get_or, length-map, take_all, take-take, take_more, length-take-le}
@@ -14,7 +13,7 @@ use Rattle.cb_offers.specs.declared.channels.Channel.{Channel}
 use Rattle.cb_offers.specs.declared.table.Table.{Table}
 use Rattle.cb_offers.specs.Tables.{AreWithin}
 use Rattle.cb_offers.specs.Marks.{marks_from, put_mark, take_mark}
-use Rattle.cb_offers.specs.Kept.{tests, senders_of, receivers_of, list_at, room_at, IsThere, both_of, met_in, met_at, met_count, Changed, call_of, calls_in, rows_of, row_at, row_room_in, row_room, AreRows, IsKept, Steps, HasMarkRoom, HasRoom, CanOffer}
+use Rattle.cb_offers.specs.Kept.{tests, senders_of, receivers_of, list_at, room_at, IsThere, both_of, met_in, met_at, Changed, call_of, calls_in, rows_of, row_at, row_room_in, row_room, AreRows, IsKept, Steps, HasMarkRoom, HasRoom, CanOffer}
 use Rattle.cb_offers.proofs.MarkLemmas.{marks_put, marks_take, one_more, none_less}
 use Rattle.cb_offers.proofs.ChannelLemmas.{get_set_same, met_few, met_at_part, tests_same, nothing_changed}
 
@@ -128,8 +127,8 @@ module _ (old new : Table) (c : ℕ) (row row' : Row) (side : Side) (marks : Lis
     rows = rows_now;
     room = changed.room;
     own_room =
-      let now : row_room new c ≡ vec_capacity row' = ap (λ (l : List Row). row_room_in (slice_get l c)) rows ∙ ap row_room_in (get_set_same old.rows.items c row' (in_rows old c row range at)) in
-      omega (arith, now, room_is old c row range at, capacity);
+        let now : row_room new c ≡ vec_capacity row' = ap (λ (l : List Row). row_room_in (slice_get l c)) rows ∙ ap row_room_in (get_set_same old.rows.items c row' (in_rows old c row range at)) in
+        omega (arith, now, room_is old c row range at, capacity);
   }
 
 -- ---- how many channels are met
@@ -165,7 +164,7 @@ module _ (old : Table) (c : ℕ) (side : Side) (row : Row) (n : ℕ) (kept : IsK
   fits_at t same own =
       let pass : tests t side ≡ true = subst (λ s. tests t s ≡ true) same own in
       let e : put_mark (mark c n) (list_at old.channels.items side) ≡ marks_from 0 (tests t) (set (rows_of old) c (row.items ++ side ∷ [])) =
-          ap (λ b. if b then put_mark (mark c n) (list_at old.channels.items side) else list_at old.channels.items t) (sym pass) ∙ put_fits t in
+      ap (λ b. if b then put_mark (mark c n) (list_at old.channels.items side) else list_at old.channels.items t) (sym pass) ∙ put_fits t in
       let room : HasMarkRoom old c t = subst (HasMarkRoom old c) (sym same) can.marks in
       let r : room_at old.channels.items t ≡ room_at old.channels.items side = ap (room_at old.channels.items) same in
       omega (arith, ap (λ (l : List Mark). length l) e, one_more (tests t) (rows_of old) 0 c (row.items ++ side ∷ []), room, r)
@@ -207,10 +206,10 @@ module _ (old : Table) (c : ℕ) (side : Side) (row : Row) (n : ℕ) (kept : IsK
         let q : calls_in row'.items ≡ calls_in (row.items ++ side ∷ []) = ap calls_in items_are in
         subst (Steps c old new) (items_are ∙ ap (λ (l : List Side). l ++ side ∷ []) (sym (row_is old c row can.range at)))
         (stepped old new c row row' side (put_mark (mark c n) (list_at old.channels.items side)) kept can.range at rows capacity changed
-          (λ t. put_fits t ∙ ap (λ (l : List Side). marks_from 0 (tests t) (set (rows_of old) c l)) (sym items_are))
-          (subst (IsRow (length old.channels.items)) (sym items_are) one)
-          (omega (arith, before_in old side before kept was, met, was, is))
-          (omega (arith, calls, p, q)))
+        (λ t. put_fits t ∙ ap (λ (l : List Side). marks_from 0 (tests t) (set (rows_of old) c l)) (sym items_are))
+        (subst (IsRow (length old.channels.items)) (sym items_are) one)
+        (omega (arith, before_in old side before kept was, met, was, is))
+        (omega (arith, calls, p, q)))
 
 -- ---- one branch less
 
@@ -254,10 +253,10 @@ module _ (old : Table) (c : ℕ) (side : Side) (row : Row) (front : List Side) (
         let whole : row_at old c ≡ front ++ side ∷ [] = row_is old c row range at ∙ items_are in
         subst (Steps c old new) (front_is ∙ sym (take_front front side) ∙ ap (λ (l : List Side). take (length l - 1) l) (sym whole))
         (stepped old new c row row' side (take_mark (mark c n) (list_at old.channels.items side)) kept range at rows capacity changed
-          (λ t. take_fits n long t ∙ ap (λ (l : List Side). marks_from 0 (tests t) (set (rows_of old) c l)) (sym front_is))
-          (subst (IsRow (length old.channels.items)) (sym front_is) one)
-          (omega (arith, before_in old side before kept was, met, was, is))
-          (omega (arith, calls, p, q, r, call_in)))
+        (λ t. take_fits n long t ∙ ap (λ (l : List Side). marks_from 0 (tests t) (set (rows_of old) c l)) (sym front_is))
+        (subst (IsRow (length old.channels.items)) (sym front_is) one)
+        (omega (arith, before_in old side before kept was, met, was, is))
+        (omega (arith, calls, p, q, r, call_in)))
 
 -- ---- several steps
 
@@ -347,13 +346,14 @@ row_reserved a b c row row' kept range at rows same capacity channels met calls 
     let own : row_at a c ≡ row'.items = row_is a c row range at ∙ sym same in
     subst (Steps c a b) (sym own)
     (stepped a b c row row' Call [] kept range at rows capacity changed (λ t. never t ∙ kept.marked t ∙ ap (marks_from 0 (tests t)) (whole own))
-      (subst (IsRow (length a.channels.items)) own (row_in (length a.channels.items) (rows_of a) c kept.within))
-      (omega (arith, met)) (omega (arith, calls, ap calls_in same)))
+    (subst (IsRow (length a.channels.items)) own (row_in (length a.channels.items) (rows_of a) c kept.within))
+    (omega (arith, met)) (omega (arith, calls, ap calls_in same)))
   where
     never : (t : Side) → (if tests t Call then [] else list_at a.channels.items t) ≡ list_at a.channels.items t
     never (Output k) = refl
     never (Input k) = refl
     never Call = refl
+
     whole : row_at a c ≡ row'.items → rows_of a ≡ set (rows_of a) c row'.items
     whole own = (steps_none a c kept).rows ∙ ap (set (rows_of a) c) own
 
@@ -388,7 +388,7 @@ module _ (a b : Table) (c n : ℕ) (range : c < length (rows_of a)) (steps : Ste
   pub clear_more : (d : Table) → 0 < n → Steps c b d (take (length (row_at b c) - 1) (row_at b c)) → Steps c a d (take (n - 1) (row_at a c)) × (n - 1 ≤ length (row_at a c))
   clear_more d some more =
       let e : take (length (row_at b c) - 1) (row_at b c) ≡ take (n - 1) (row_at a c) =
-          ap (λ k. take (k - 1) (row_at b c)) left_long ∙ ap (take (n - 1)) (row_after a b c (take n (row_at a c)) steps range) ∙ take-take (n - 1) n (row_at a c) (omega arith) in
+      ap (λ k. take (k - 1) (row_at b c)) left_long ∙ ap (take (n - 1)) (row_after a b c (take n (row_at a c)) steps range) ∙ take-take (n - 1) n (row_at a c) (omega arith) in
       (subst (Steps c a d) e (steps_on a b d c (take n (row_at a c)) (take (length (row_at b c) - 1) (row_at b c)) steps more), omega (arith, within))
 
 -- ---- the loop of `reserve`
@@ -437,7 +437,7 @@ module _ (a b : Table) (c : ℕ) (sides : List Side) (i : ℕ) (side : Side) (ra
   pub set_more : (d : Table) → Steps c b d (row_at b c ++ side ∷ []) → Steps c a d (take (i + 1) sides)
   set_more d more =
       let e : row_at b c ++ side ∷ [] ≡ take (i + 1) sides =
-          ap (λ (l : List Side). l ++ side ∷ []) (row_after a b c (take i sides) steps range) ∙ ap (λ s. take i sides ++ s ∷ []) (sym (get_or_from_slice_get sides i side side here)) ∙ sym (take_more sides i side in_sides) in
+      ap (λ (l : List Side). l ++ side ∷ []) (row_after a b c (take i sides) steps range) ∙ ap (λ s. take i sides ++ s ∷ []) (sym (get_or_from_slice_get sides i side side here)) ∙ sym (take_more sides i side in_sides) in
       subst (Steps c a d) e (steps_on a b d c (take i sides) (row_at b c ++ side ∷ []) steps more)
 
 pub side_at : (sides : List Side) (i : ℕ) → i < length sides → slice_get sides i ≡ Some (get_or sides i (Output 0))

@@ -1,8 +1,7 @@
 -- What contracts see of a table.
-use Rattle.std.proofs.Common.{◌≡◌, ℕ, ◌<◌, Bool, true, false, Option, Some, None, Result, Ok, Err, option_map, OnOk, OnErr, List, [], ◌∷◌, length, slice_get, get_or, set, refl, sym, ap, subst, ◌∙◌, arith}
+use Rattle.std.proofs.Common.{◌≡◌, ℕ, ◌<◌, Option, Some, None, Result, Ok, Err, option_map, OnOk, OnErr, List, [], ◌∷◌, length, slice_get, get_or, set, refl, sym, ap, subst, ◌∙◌}
 use Rattle.std.proofs.lemmas.Option.{slice_get_read}
 use Rattle.cb_offers.specs.declared.offers.Side.{Side}
-use Rattle.cb_offers.specs.declared.offers.Side.TheVariants.{Output, Input}
 use Rattle.cb_offers.specs.declared.marks.Mark.{Mark}
 use Rattle.cb_offers.specs.declared.channels.Channel.{Channel}
 use Rattle.cb_offers.specs.declared.table.Table.{Table}

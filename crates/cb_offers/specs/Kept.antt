@@ -1,5 +1,5 @@
 -- What a table keeps of its rows: marks on each channel, and counts. An end of a channel is told by a side: that of its senders by an output.
-use Rattle.std.specs.Prelude.{ℕ, suc, ◌+◌, ◌-◌, ◌^◌, ◌<◌, ◌≤◌, ◌≡◌, Bool, false, Option, None, Some, List, [], ◌∷◌, ◌++◌, map, length, take, slice_get, slice_set, unwrap_or, sum_by, replicate, Vec, vec_len, vec_capacity, ⊤, if◌then◌else◌}
+use Rattle.std.specs.Prelude.{ℕ, ◌+◌, ◌^◌, ◌<◌, ◌≤◌, ◌≡◌, Bool, false, Option, None, Some, List, [], ◌∷◌, map, length, slice_get, slice_set, unwrap_or, sum_by, replicate, Vec, vec_capacity, ⊤, if◌then◌else◌}
 use Rattle.std.specs.declared.alloc.Global.{Global}
 use Rattle.cb_offers.specs.declared.offers.Side.{Side}
 use Rattle.cb_offers.specs.declared.offers.Side.TheVariants.{Output, Input, Call}
@@ -7,7 +7,7 @@ use Rattle.cb_offers.specs.declared.marks.Mark.{Mark}
 use Rattle.cb_offers.specs.declared.channels.Channel.{Channel}
 use Rattle.cb_offers.specs.declared.table.Table.{Table}
 use Rattle.cb_offers.specs.Tables.{sends, receives, AreWithin}
-use Rattle.cb_offers.specs.Marks.{marks_from, put_mark, take_mark}
+use Rattle.cb_offers.specs.Marks.{marks_from}
 
 -- ---- ends of channels
 

@@ -121,7 +121,9 @@ impl Table {
         ensures { Steps controller self.old self.new (take (length (row_at self.old controller) - 1) (row_at self.old controller)) }
     {
         let row = &mut self.rows[controller as usize];
-        let Some(side) = row.pop() else { unreachable!() };
+        let Some(side) = row.pop() else {
+            unreachable!()
+        };
         let branch = row.len() as u32;
         let before = met_at(&self.channels, side);
         take_at(&mut self.channels, side, Mark { controller, branch });

@@ -1,4 +1,4 @@
-use Rattle.std.proofs.Common.{◌≡◌, map, replicate, List, [], Vec}
+use Rattle.std.proofs.Common.{◌≡◌, map, replicate, [], Vec}
 use Rattle.std.specs.declared.alloc.Global.{Global}
 use Rattle.cb_offers.specs.declared.offers.Side.{Side}
 use Rattle.cb_offers.proofs.table.empty_rows.Given as goal

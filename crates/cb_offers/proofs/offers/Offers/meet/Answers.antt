@@ -7,13 +7,13 @@ pub returns-in_err-sender : goal.returns-in_err-sender
 returns-in_err-sender c =
     c.from_residual.ensures
     ∙ no_sender c.self.inside.table c.args.self.now c.self.view_is c.self.invariant c.args.channel c.index-channel.result.now c.requires c.index-channel.ensures
-      (sym (c.in_err-sender.ensures.value ∙ ap (λ (l : List Mark). slice_get l 0) c.deref.ensures.value))
+    (sym (c.in_err-sender.ensures.value ∙ ap (λ (l : List Mark). slice_get l 0) c.deref.ensures.value))
 
 pub returns-in_err-receiver : goal.returns-in_err-receiver
 returns-in_err-receiver c =
     c.from_residual-in_err-receiver.ensures
     ∙ no_receiver c.self.inside.table c.args.self.now c.self.view_is c.self.invariant c.args.channel c.index-channel.result.now c.requires c.index-channel.ensures
-      (sym (c.in_err-receiver.ensures.value ∙ ap (λ (l : List Mark). slice_get l 0) c.deref-2.ensures.value))
+    (sym (c.in_err-receiver.ensures.value ∙ ap (λ (l : List Mark). slice_get l 0) c.deref-2.ensures.value))
 
 pub returns : goal.returns
 returns c =

@@ -1,4 +1,4 @@
-use Rattle.std.proofs.Common.{refl, ap, ◌∙◌, ◌≡◌, ◌≤◌, ◌-◌, ◌+◌, ◌<◌, ◌^◌, length, arith, List}
+use Rattle.std.proofs.Common.{refl, ap, ◌∙◌, ◌≡◌, ◌+◌, arith, List}
 use Rattle.cb_offers.specs.declared.channels.Channel.{Channel}
 use Rattle.cb_offers.specs.Kept.{met_at}
 use Rattle.cb_offers.proofs.TableLemmas.{put_room, before_in, met_fits, calls_fit, offered}

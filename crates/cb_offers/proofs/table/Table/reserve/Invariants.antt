@@ -7,5 +7,5 @@ abbrev pub invariant-loop-side : goal.invariant-loop-side
 invariant-loop-side l = record {
   steps : Steps l.controller l.fn.self l.self (row_at l.fn.self l.controller);
   below : HasRoomBelow l.self l.controller l.sides l.side-index;
-  own : length l.sides ≤ row_room l.self l.controller
+  own : length l.sides ≤ row_room l.self l.controller;
 }

@@ -1,4 +1,4 @@
-use Rattle.std.proofs.Common.{refl, ap, sym, subst, ◌∙◌, ◌≡◌, ◌≤◌, ◌-◌, ◌+◌, ◌<◌, ◌^◌, ◌++◌, ◌∷◌, [], length, arith, List}
+use Rattle.std.proofs.Common.{refl, ap, sym, subst, ◌∙◌, ◌≡◌, ◌-◌, length, arith, List}
 use Rattle.cb_offers.specs.declared.channels.Channel.{Channel}
 use Rattle.cb_offers.specs.Kept.{met_at, IsThere}
 use Rattle.cb_offers.proofs.TableLemmas.{last_there, branch_fits, call_in, before_in, met_fits, withdrawn}
