@@ -32,11 +32,7 @@ pub struct Beginning {
 
 /// Lets a sound system begin: each machine's initialisation runs once, the picker taking the choices that it leaves, and each
 /// controller is at its START call. It fails where memory is wanting.
-pub fn begin<P: Pick>(
-    alloc: Global,
-    sound: &SoundSpec,
-    pick: &mut P,
-) -> Result<Beginning, Memory>
+pub fn begin<P: Pick>(alloc: Global, sound: &SoundSpec, pick: &mut P) -> Result<Beginning, Memory>
     ensures { IfOk result (λ b. Begins sound.now b) }
 {
     let system = sound.spec();

@@ -28,11 +28,7 @@ fn write_over(alloc: Global, store: &mut Store, written: &Store) -> Result<(), M
 }
 
 /// The values that the machines' initialisations write, each run once where no name has a value.
-pub fn initial_store<P: Pick>(
-    alloc: Global,
-    system: &System,
-    pick: &mut P,
-) -> Result<Store, Memory>
+pub fn initial_store<P: Pick>(alloc: Global, system: &System, pick: &mut P) -> Result<Store, Memory>
     requires typed { Typed system.now }
     requires sound { Sound system.now }
     ensures { IfOk result (λ d. HaveBegun (set_sizes system.now) system.now.machines d) }

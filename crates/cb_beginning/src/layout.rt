@@ -26,11 +26,7 @@ pub struct Layout {
 }
 
 // Lays down the bodies of the controller's definitions, and tells their places.
-fn lay_bodies(
-    alloc: Global,
-    code: &mut Code,
-    controller: &Controller,
-) -> Result<Items<u32>, Memory>
+fn lay_bodies(alloc: Global, code: &mut Code, controller: &Controller) -> Result<Items<u32>, Memory>
     ensures bodies { IfOk result (λ ks. HasBodies controller.now code.new ks) }
     ensures more { OnOk result (Extends code.old code.new) }
 {
@@ -56,11 +52,7 @@ fn lay_start(alloc: Global, code: &mut Code, controller: &Controller) -> Result<
 }
 
 // Lays down one controller more, which is at its START call.
-fn lay_controller(
-    alloc: Global,
-    layout: &mut Layout,
-    controller: &Controller,
-) -> Result<(), Memory>
+fn lay_controller(alloc: Global, layout: &mut Layout, controller: &Controller) -> Result<(), Memory>
     ensures { OnOk result (AddsController controller.now layout.old layout.new) }
 {
     let bodies = lay_bodies(alloc, &mut layout.code, controller)?;
@@ -69,7 +61,8 @@ fn lay_controller(
     layout.places.push(Place::At {
         process,
         env: Store::new(alloc),
-    })
+    })?;
+    Ok(())
 }
 
 // The controller at this place of the text.
