@@ -1,5 +1,6 @@
 -- Names that get places in a store.
-use Rattle.std.proofs.Common.{◌≡◌, ℕ, ◌+◌, ◌<◌, Bool, true, false, ◌||◌, if◌then◌else◌, List, [], ◌∷◌, ◌++◌, length, get_or, take, map, flat_map, Some, None, IsSome, ◌⊎◌, inl, inr, refl, sym, ap, subst, ◌∙◌}
+use Rattle.std.proofs.Common.{◌≡◌, ℕ, ◌+◌, ◌<◌, Bool, true, false, ◌||◌, not, if◌then◌else◌, List, [], ◌∷◌, ◌++◌, length, get_or, take, map, flat_map, Option, Some, None, IsSome, is_some, Bor, ◌⊎◌, inl, inr, refl, sym, ap, subst, ◌∙◌}
+use Rattle.std.specs.Option.{option_copied}
 use Rattle.std.proofs.lemmas.List.{take_more, map-append, append-nil}
 use Rattle.std.proofs.lemmas.Grind.{flat_map-append}
 use Rattle.cb_term.specs.declared.name.Name.{Name}
@@ -70,18 +71,28 @@ place_put old new z none puts = record {
     by x true e = sym (over_is old empty x ∙ ap (λ o. or_look o nothing) (ap (found old) (same_name_tells x z e) ∙ none))
     by x false e = refl
 
+-- ---- what a look-up has told
+
+pub lacks : (r : Option (Bor Value)) (o : Option Value) (b : Bool) → option_copied r ≡ o → is_some r ≡ not b → b ≡ true → o ≡ None
+lacks None o b e i t = sym e
+lacks (Some v) o b e i t = let h : true ≡ not true = i ∙ ap not t in cc
+
+pub has : (r : Option (Bor Value)) (o : Option Value) (b : Bool) → option_copied r ≡ o → is_some r ≡ not b → b ≡ false → IsSome o
+has None o b e i t = let h : false ≡ not false = i ∙ ap not t in cc
+has (Some v) o b e i t = subst IsSome e refl
+
 -- ---- one more
 
-pub places_more : {A : Type 0} (f : A → List Name) (xs : List A) (k : ℕ) (d : A) (a b c : Writes) → k < length xs → GivesPlaces (flat_map f (take k xs)) a b → GivesPlaces (f (get_or xs k d)) b c →
+pub places_more : {A : Type 0} (f : A → List Name) (xs : List A) (k : ℕ) (d : A) (a b c : Writes) → k < length xs → d ≡ get_or xs k d → GivesPlaces (flat_map f (take k xs)) a b → GivesPlaces (f d) b c →
     GivesPlaces (flat_map f (take (k + 1) xs)) a c
-places_more f xs k d a b c low g h =
-    let e = get_or xs k d in
-    let is : flat_map f (take (k + 1) xs) ≡ flat_map f (take k xs) ++ f e = ap (flat_map f) (take_more xs k d low) ∙ flat_map-append f (take k xs) (e ∷ []) ∙ ap (λ l. flat_map f (take k xs) ++ l) (append-nil (f e)) in
-    subst (λ l. GivesPlaces l a c) (sym is) (places_both (flat_map f (take k xs)) (f e) a b c g h)
+places_more f xs k d a b c low is g h =
+    let more : take (k + 1) xs ≡ take k xs ++ d ∷ [] = take_more xs k d low ∙ ap (λ e. take k xs ++ e ∷ []) (sym is) in
+    let joined : flat_map f (take (k + 1) xs) ≡ flat_map f (take k xs) ++ f d = ap (flat_map f) more ∙ flat_map-append f (take k xs) (d ∷ []) ∙ ap (λ l. flat_map f (take k xs) ++ l) (append-nil (f d)) in
+    subst (λ l. GivesPlaces l a c) (sym joined) (places_both (flat_map f (take k xs)) (f d) a b c g h)
 
-pub name_more : (ds : List Declared) (k : ℕ) (d : Declared) (a b c : Writes) → k < length ds → GivesPlaces (names (take k ds)) a b → GivesPlaces ((get_or ds k d).name ∷ []) b c →
+pub name_more : (ds : List Declared) (k : ℕ) (d : Declared) (a b c : Writes) → k < length ds → d ≡ get_or ds k d → GivesPlaces (names (take k ds)) a b → GivesPlaces (d.name ∷ []) b c →
     GivesPlaces (names (take (k + 1) ds)) a c
-name_more ds k d a b c low g h =
-    let e = get_or ds k d in
-    let is : names (take (k + 1) ds) ≡ names (take k ds) ++ (e.name ∷ []) = ap names (take_more ds k d low) ∙ map-append (λ (p : Declared). p.name) (take k ds) (e ∷ []) in
-    subst (λ l. GivesPlaces l a c) (sym is) (places_both (names (take k ds)) (e.name ∷ []) a b c g h)
+name_more ds k d a b c low is g h =
+    let more : take (k + 1) ds ≡ take k ds ++ d ∷ [] = take_more ds k d low ∙ ap (λ e. take k ds ++ e ∷ []) (sym is) in
+    let joined : names (take (k + 1) ds) ≡ names (take k ds) ++ (d.name ∷ []) = ap names more ∙ map-append (λ (p : Declared). p.name) (take k ds) (d ∷ []) in
+    subst (λ l. GivesPlaces l a c) (sym joined) (places_both (names (take k ds)) (d.name ∷ []) a b c g h)
