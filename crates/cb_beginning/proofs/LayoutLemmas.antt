@@ -1,7 +1,7 @@
 -- Processes of controllers that are laid flat.
-use Rattle.std.proofs.Common.{◌≡◌, ◌==◌, ℕ, zero, suc, ◌+◌, ◌<◌, ◌≤◌, Bool, true, false, List, [], ◌∷◌, ◌++◌, length, get_or, slice_get, Some, refl, sym, ap, subst, ◌∙◌, length-append, append-nil, arith}
+use Rattle.std.proofs.Common.{◌≡◌, ◌==◌, ℕ, zero, suc, ◌+◌, ◌<◌, ◌≤◌, Bool, true, false, List, [], ◌∷◌, ◌++◌, length, get_or, slice_get, Some, refl, sym, ap, subst, ◌∙◌, length-append, arith}
 use Rattle.std.proofs.lemmas.Bool.{eqb-true, eqb-false}
-use Rattle.std.proofs.lemmas.Option.{get_or_from_slice_get}
+use Rattle.std.proofs.lemmas.Option.{get_or_from_slice_get, slice_get-get_or}
 use Rattle.cb_spec.specs.declared.system.Controller.{Controller}
 use Rattle.cb_spec.specs.declared.system.Definition.{Definition}
 use Rattle.cb_spec.specs.declared.system.System.{System}
@@ -46,23 +46,15 @@ pub record HasFirst (c : Controller) (old new : List ProcessTree) (ks : List ℕ
   pub more : Extends old new
   pub each : (j : ℕ) (d : Definition) → j < n → IsAt c.definitions j d → (b : ℕ) × ((slice_get ks j ≡ Some b) × (slice_get new b ≡ Some d.body))
 
-pub first_none : (c : Controller) (ps : List ProcessTree) → HasFirst c ps ps [] 0
-first_none c ps = record { many = refl; more = ([], sym (append-nil ps)); each = λ j d low at. absurd (omega (arith, low)) }
-
-pub first_more : (c : Controller) (old mid new : List ProcessTree) (ks longer : List ℕ) (n k : ℕ) (d : Definition) → Extends mid new → slice_get new k ≡ Some (get_or c.definitions n d).body → longer ≡ ks ++ k ∷ [] →
-    HasFirst c old mid ks n → HasFirst c old new longer (n + 1)
-first_more c old mid new ks longer n k d more laid is h = record {
+pub first_more : (c : Controller) (old mid new : List ProcessTree) (ks longer : List ℕ) (n k : ℕ) (d : Definition) → d ≡ get_or c.definitions n d → Extends mid new → slice_get new k ≡ Some d.body →
+    longer ≡ ks ++ k ∷ [] → HasFirst c old mid ks n → HasFirst c old new longer (n + 1)
+first_more c old mid new ks longer n k d item more laid is h = record {
   many = longer_by_one ks longer k n is h.many;
   more = extends_all old mid new h.more more;
   each = λ j e low at. below_next j n _ low
       (λ less. let f = h.each j e less at in (f.0, (at_longer ks longer k j f.0 is f.1.0, still_at mid new more.0 f.0 e.body more.1 f.1.1)))
-      (λ same. (
-        k,
-        (
-          subst (λ i. IsAt longer i k) (sym same) (at_last ks longer k n is h.many),
-          laid ∙ ap (λ (f : Definition). Some f.body) (get_or_from_slice_get c.definitions n e d (subst (λ i. IsAt c.definitions i e) same at)),
-        ),
-      ));
+      (λ same. (k, (subst (λ i. IsAt longer i k) (sym same) (at_last ks longer k n is h.many),
+      laid ∙ ap (λ (f : Definition). Some f.body) (item ∙ get_or_from_slice_get c.definitions n e d (subst (λ i. IsAt c.definitions i e) same at)))));
 }
 
 pub first_all : (c : Controller) (old new : List ProcessTree) (ks : List ℕ) (n : ℕ) → length c.definitions ≤ n → HasFirst c old new ks n → HasBodies c new ks
@@ -89,13 +81,9 @@ adds c old new mid ks k laid more starts further places bodies = record {
   laid = bodies_stay c mid new.code ks further laid;
 }
 
-pub laid_none : (y : System) (l : Layout) → l.places.items ≡ [] → l.bodies.items ≡ [] → IsLaidTo y 0 l
-laid_none y l places bodies = record {
-  many_places = ap length places;
-  many_bodies = ap length bodies;
-  starts = λ i c low its. absurd (omega (arith, low));
-  laid = λ i c low its. absurd (omega (arith, low));
-}
+-- each number of the order is that of a controller
+pub its_number : (y : System) (ks : List ℕ) (n : ℕ) (c : Controller) → ks ≡ y.order → n < length ks → IsAt y.controllers (get_or ks n 0) c → IsNumbered y n c
+its_number y ks n c is low at = (get_or ks n 0, (subst (λ l. IsAt l n (get_or ks n 0)) is (slice_get-get_or ks n 0 low), at))
 
 pub laid_more : (y : System) (n : ℕ) (c : Controller) (old new : Layout) → IsNumbered y n c → AddsController c old new → IsLaidTo y n old → IsLaidTo y (n + 1) new
 laid_more y n c old new its a h = record {

@@ -34,13 +34,13 @@ pub fn initial_store<P: Pick>(alloc: Global, system: &System, pick: &mut P) -> R
     ensures { IfOk result (λ d. HaveBegun (set_sizes system.now) system.now.machines d) }
 {
     let nothing = Store::new(alloc);
-    let mut initial = Store::new(alloc);
+    let mut values = Store::new(alloc);
     let machines = system.machines.as_slice();
     let mut left = machines.len();
     while left > 0 {
         left -= 1;
         let written = perform(alloc, &system.sets, &machines[left].init, &nothing, pick)?;
-        write_over(alloc, &mut initial, &written)?;
+        write_over(alloc, &mut values, &written)?;
     }
-    Ok(initial)
+    Ok(values)
 }
