@@ -65,9 +65,8 @@ written_more es start old new left d some puts h =
 
 -- ---- machines that begin
 
-pub begun_none : (sizes : List ℕ) (ms : List Machine) (left : ℕ) → left ≡ length ms → HaveBegun sizes (drop left ms) []
-begun_none sizes ms left is =
-    subst (λ l. HaveBegun sizes l []) (sym (ap (λ n. drop n ms) is ∙ drop-length ms)) (record { joined = []; begun = refl; same = λ x. refl })
+pub begun_none : (sizes : List ℕ) (ms : List Machine) → HaveBegun sizes (drop (length ms) ms) []
+begun_none sizes ms = subst (λ l. HaveBegun sizes l []) (sym (drop-length ms)) (record { joined = []; begun = refl; same = λ x. refl })
 
 pub begun_more : (sizes : List ℕ) (ms : List Machine) (left : ℕ) (m : Machine) (old written new : Writes) → 0 < left → left ≤ length ms → IsRunOf sizes (get_or ms (left - 1) m).init empty written →
     SameMap new (written ++ old) → HaveBegun sizes (drop left ms) old → HaveBegun sizes (drop (left - 1) ms) new

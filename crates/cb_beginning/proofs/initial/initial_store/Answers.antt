@@ -14,28 +14,27 @@ pub loop-left-init : goal.loop-left-init
 loop-left-init g c =
     let sizes = set_sizes c.args.system.now in
     let ms = c.as_slice-machines.result.now in
-    let long : c.len-left.result ≡ length ms = grind (arith, common_steps) in
-    (omega (arith, long), subst (HaveBegun sizes (drop c.len-left.result ms)) (sym c.new-values.ensures) (begun_none sizes ms c.len-left.result long))
+    (omega arith, subst (HaveBegun sizes (drop (length ms) ms)) (sym c.new-values.ensures) (begun_none sizes ms))
 
 pub perform-requires : goal.perform-requires
 perform-requires g c =
     let y = c.args.system.now in
     let ms = c.as_slice-machines.result.now in
     let k = c.loop-left.left - 1 in
-    let m = c.index-machines-left.result in
+    let m = get_or ms k c.index-machines-left.result in
     let low : k < length ms = omega (arith, c.loop-left-test.true, c.loop-left.invariant.0) in
-    let at : IsAt y.machines k m = subst (λ l. IsAt l k m) c.as_slice-machines.ensures (slice_get-get_or ms k m low ∙ ap Some (sym c.index-machines-left.is)) in
+    let at : IsAt y.machines k m = subst (λ l. IsAt l k m) c.as_slice-machines.ensures (slice_get-get_or ms k c.index-machines-left.result low) in
     subst (λ d. CanRun (set_sizes y) (look_of d) m.init) (sym c.new-nothing.ensures) (init_can_run y c.requires.typed c.requires.sound k m at)
 
 pub loop-left-preserved : goal.loop-left-preserved
 loop-left-preserved g c =
     let sizes = set_sizes c.args.system.now in
     let ms = c.as_slice-machines.result.now in
-    let m = c.index-machines-left.result in
+    let m = get_or ms (c.loop-left.left - 1) c.index-machines-left.result in
     let written = c.in_ok-written.written in
-    let run = subst (λ (n : Machine). IsRunOf sizes n.init empty written) c.index-machines-left.is (subst (λ d. IsRunOf sizes m.init (look_of d) written) c.new-nothing.ensures c.in_ok-written.ensures) in (
+    let run = subst (λ d. IsRunOf sizes m.init (look_of d) written) c.new-nothing.ensures c.in_ok-written.ensures in (
       omega (arith, c.loop-left.invariant.0),
-      begun_more sizes ms c.loop-left.left m c.loop-left.values written c.write_over.new.store c.loop-left-test.true c.loop-left.invariant.0 run c.in_ok-write_over.ensures c.loop-left.invariant.1,
+      begun_more sizes ms c.loop-left.left c.index-machines-left.result c.loop-left.values written c.write_over.new.store c.loop-left-test.true c.loop-left.invariant.0 run c.in_ok-write_over.ensures c.loop-left.invariant.1,
     )
 
 pub returns : goal.returns
