@@ -1,5 +1,5 @@
 -- What a system begins with.
-use Rattle.std.proofs.Common.{◌≡◌, ℕ, suc, ◌<◌, Bool, true, false, List, [], ◌∷◌, map, flat_map, length, slice_get, Some, None, refl, sym, ap, subst, true≢false, ◌∙◌, arith}
+use Rattle.std.proofs.Common.{◌≡◌, ℕ, suc, ◌<◌, true, false, List, [], ◌∷◌, map, flat_map, length, slice_get, refl, sym, ap, subst, true≢false, ◌∙◌, arith}
 use Rattle.std.proofs.lemmas.Bool.{false_from_ne_true}
 use Rattle.std.proofs.lemmas.Option.{slice_get_within}
 use Rattle.cb_term.specs.declared.name.Name.{Name}
@@ -8,12 +8,11 @@ use Rattle.cb_spec.specs.declared.system.Controller.{Controller}
 use Rattle.cb_spec.specs.declared.system.Machine.{Machine}
 use Rattle.cb_spec.specs.declared.system.Operation.{Operation}
 use Rattle.cb_spec.specs.declared.system.System.{System}
-use Rattle.cb_spec.specs.declared.state.Control.{Control}
-use Rattle.cb_spec.specs.ProcessTree.{ProcessTree, Call}
-use Rattle.cb_spec.specs.Stores.{Writes, found, empty, look_of}
+use Rattle.cb_spec.specs.ProcessTree.{Call}
+use Rattle.cb_spec.specs.Stores.{Writes, empty, look_of}
 use Rattle.cb_spec.specs.Bound.{names, result_names, is_among}
-use Rattle.cb_spec.specs.States.{IsAt, ControlView, AtProcess, control_of, state_of}
-use Rattle.cb_spec.specs.Journals.{set_sizes, IsNumbered, begin_at, beginning}
+use Rattle.cb_spec.specs.States.{IsAt, AtProcess, control_of}
+use Rattle.cb_spec.specs.Journals.{set_sizes, IsNumbered, begin_at}
 use Rattle.cb_spec.specs.Typed.{global_names, Typed}
 use Rattle.cb_spec.proofs.StoreLemmas.{over_is, or_look}
 use Rattle.cb_typed.proofs.Fitting.{variable_global}
@@ -22,11 +21,9 @@ use Rattle.cb_code.specs.declared.place.Place.{Place}
 use Rattle.cb_code.specs.declared.place.Place.TheVariants.{At, Ready}
 use Rattle.cb_code.proofs.CodeLemmas.{part_is}
 use Rattle.cb_safety_laws.proofs.Lists.{two_at, there, at_below}
-use Rattle.cb_settling.specs.Branches.{ArePrefixes}
 use Rattle.cb_settling.specs.Calling.{IsRoomy}
-use Rattle.cb_beginning.specs.declared.begin.Beginning.{Beginning}
 use Rattle.cb_beginning.specs.declared.layout.Layout.{Layout}
-use Rattle.cb_beginning.specs.Placed.{tree_control, state_in, Laid}
+use Rattle.cb_beginning.specs.Placed.{tree_control, Laid}
 use Rattle.cb_beginning.specs.Begins.{Begins}
 use Rattle.cb_beginning.specs.Initial.{HaveBegun}
 use Rattle.cb_beginning.specs.Room.{GivesPlaces, names_in}

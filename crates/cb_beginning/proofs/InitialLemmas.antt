@@ -1,5 +1,5 @@
 -- The values with which machines begin.
-use Rattle.std.proofs.Common.{◌≡◌, ℕ, zero, suc, ◌-◌, ◌<◌, ◌≤◌, Bool, true, false, ◌||◌, if◌then◌else◌, List, [], ◌∷◌, ◌++◌, length, get_or, drop, Option, Some, None, IsSome, refl, sym, ap, subst, ◌∙◌, arith}
+use Rattle.std.proofs.Common.{◌≡◌, ℕ, suc, ◌-◌, ◌<◌, ◌≤◌, Bool, true, false, ◌||◌, if◌then◌else◌, List, [], ◌∷◌, ◌++◌, length, get_or, drop, Option, Some, None, IsSome, refl, sym, ap, subst, ◌∙◌, arith}
 use Rattle.std.proofs.Math.Seq.{drop-cons, drop-length}
 use Rattle.cb_term.specs.declared.name.Name.{Name}
 use Rattle.cb_term.specs.declared.kind.Kind.{Kind}
@@ -11,7 +11,7 @@ use Rattle.cb_spec.specs.declared.system.Machine.{Machine}
 use Rattle.cb_spec.specs.declared.system.System.{System}
 use Rattle.cb_spec.specs.SubstTree.{SubstTree, Skip, Assign, Together, Choice, If, AnyOf, SubstTrees, End, More}
 use Rattle.cb_spec.specs.Domains.{kind_of_domain}
-use Rattle.cb_spec.specs.Stores.{Writes, found, empty, SameMap, Puts}
+use Rattle.cb_spec.specs.Stores.{Writes, found, empty, SameMap}
 use Rattle.cb_spec.specs.Bound.{names, is_among}
 use Rattle.cb_spec.specs.Runs.{Runs, writes, one_writes}
 use Rattle.cb_spec.specs.Forms.{form_of_domain}
@@ -48,20 +48,6 @@ joined_same d e d' e' f g x = found_joined d e x ∙ (λ i. first (f x i) (g x i
 -- the entries from `left` on are written over the map
 abbrev pub WrittenFrom : Writes → Writes → Writes → ℕ → Type 0
 WrittenFrom es old new left = (left ≤ length es) × SameMap new (drop left es ++ old)
-
-pub written_none : (es old : Writes) (left : ℕ) → left ≡ length es → WrittenFrom es old old left
-written_none es old left is = (omega (arith, is), λ x. ap (λ d. found (d ++ old) x) (sym (ap (λ n. drop n es) is ∙ drop-length es)))
-
-pub written_more : (es start old new : Writes) (left : ℕ) (d : Name × Value) → 0 < left → Puts old new (get_or es (left - 1) d).0 (get_or es (left - 1) d).1 → WrittenFrom es start old left →
-    WrittenFrom es start new (left - 1)
-written_more es start old new left d some puts h =
-    let k = left - 1 in
-    let low : k < length es = omega (arith, some, h.0) in
-    let up : left ≡ suc k = omega (arith, some) in
-    let e = get_or es k d in (
-      omega (arith, h.0),
-      λ x. puts.found_is x ∙ ap (λ o. if same_name x e.0 then Some e.1 else o) (h.1 x ∙ ap (λ n. found (drop n es ++ start) x) up) ∙ ap (λ l. found (l ++ start) x) (sym (drop-cons es k d low)),
-    )
 
 -- ---- machines that begin
 

@@ -1,5 +1,5 @@
 -- Processes of controllers that are laid flat.
-use Rattle.std.proofs.Common.{◌≡◌, ◌==◌, ℕ, zero, suc, ◌+◌, ◌<◌, ◌≤◌, Bool, true, false, List, [], ◌∷◌, ◌++◌, length, get_or, slice_get, Some, refl, sym, ap, subst, ◌∙◌, length-append, arith}
+use Rattle.std.proofs.Common.{◌≡◌, ◌==◌, ℕ, ◌+◌, ◌<◌, ◌≤◌, Bool, true, false, List, [], ◌∷◌, ◌++◌, length, get_or, slice_get, Some, refl, sym, ap, subst, ◌∙◌, length-append, arith}
 use Rattle.std.proofs.lemmas.Bool.{eqb-true, eqb-false}
 use Rattle.std.proofs.lemmas.Option.{get_or_from_slice_get, slice_get-get_or}
 use Rattle.cb_spec.specs.declared.system.Controller.{Controller}
@@ -10,7 +10,7 @@ use Rattle.cb_spec.specs.States.{IsAt}
 use Rattle.cb_spec.specs.Journals.{IsNumbered}
 use Rattle.cb_code.specs.declared.place.Place.TheVariants.{At}
 use Rattle.cb_code.specs.Nodes.{Extends}
-use Rattle.cb_code.proofs.CodeLemmas.{get_kept, get_last, still_at, extends_all}
+use Rattle.cb_code.proofs.CodeLemmas.{get_last, still_at, extends_all}
 use Rattle.cb_safety_laws.proofs.Lists.{at_below}
 use Rattle.cb_safety_laws.proofs.Parts.{one_numbered}
 use Rattle.cb_settling.specs.Resolving.{HasBodies}
@@ -53,8 +53,13 @@ first_more c old mid new ks longer n k d item more laid is h = record {
   more = extends_all old mid new h.more more;
   each = λ j e low at. below_next j n _ low
       (λ less. let f = h.each j e less at in (f.0, (at_longer ks longer k j f.0 is f.1.0, still_at mid new more.0 f.0 e.body more.1 f.1.1)))
-      (λ same. (k, (subst (λ i. IsAt longer i k) (sym same) (at_last ks longer k n is h.many),
-      laid ∙ ap (λ (f : Definition). Some f.body) (item ∙ get_or_from_slice_get c.definitions n e d (subst (λ i. IsAt c.definitions i e) same at)))));
+      (λ same. (
+        k,
+        (
+          subst (λ i. IsAt longer i k) (sym same) (at_last ks longer k n is h.many),
+          laid ∙ ap (λ (f : Definition). Some f.body) (item ∙ get_or_from_slice_get c.definitions n e d (subst (λ i. IsAt c.definitions i e) same at)),
+        ),
+      ));
 }
 
 pub first_all : (c : Controller) (old new : List ProcessTree) (ks : List ℕ) (n : ℕ) → length c.definitions ≤ n → HasFirst c old new ks n → HasBodies c new ks

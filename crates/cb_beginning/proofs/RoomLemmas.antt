@@ -1,18 +1,17 @@
 -- Names that get places in a store.
-use Rattle.std.proofs.Common.{◌≡◌, ℕ, ◌+◌, ◌<◌, Bool, true, false, ◌||◌, not, if◌then◌else◌, List, [], ◌∷◌, ◌++◌, length, get_or, take, map, flat_map, Option, Some, None, IsSome, is_some, Bor, ◌⊎◌, inl, inr, refl, sym, ap, subst, ◌∙◌}
+use Rattle.std.proofs.Common.{◌≡◌, ℕ, ◌+◌, ◌<◌, Bool, true, false, ◌||◌, not, if◌then◌else◌, List, [], ◌∷◌, ◌++◌, length, get_or, take, flat_map, Option, Some, None, IsSome, is_some, Bor, ◌⊎◌, inl, inr, refl, sym, ap, subst, ◌∙◌}
 use Rattle.std.specs.Option.{option_copied}
 use Rattle.std.proofs.lemmas.List.{take_more, map-append, append-nil}
 use Rattle.std.proofs.lemmas.Grind.{flat_map-append}
 use Rattle.cb_term.specs.declared.name.Name.{Name}
 use Rattle.cb_term.specs.declared.value.Value.{Value}
 use Rattle.cb_term.specs.Names.{same_name}
-use Rattle.cb_term.specs.Values.{Look, nothing}
+use Rattle.cb_term.specs.Values.{nothing}
 use Rattle.cb_term.proofs.ValueLemmas.{same_name_tells, same_name_self}
 use Rattle.cb_spec.specs.declared.system.Declared.{Declared}
 use Rattle.cb_spec.specs.Stores.{Writes, found, empty, look_of, Puts}
 use Rattle.cb_spec.specs.Bound.{names, is_among}
 use Rattle.cb_spec.proofs.StoreLemmas.{over_is, or_look}
-use Rattle.cb_settling.specs.Ops.{AllThere, KeepsNames}
 use Rattle.cb_settling.proofs.OpSteps.{keeps_both}
 use Rattle.cb_beginning.specs.Room.{GivesPlaces}
 
@@ -24,9 +23,6 @@ in_either x (z ∷ xs) ys e = by (same_name x z) e (in_either x xs ys)
         ((b || is_among x xs) ≡ true) ⊎ (is_among x ys ≡ true)
     by true e r = inl refl
     by false e r = r e
-
-pub no_places : (d : Writes) → GivesPlaces [] d d
-no_places d = record { there = λ x e. cc; names_kept = λ x h. h; same = refl }
 
 pub places_both : (xs ys : List Name) (a b c : Writes) → GivesPlaces xs a b → GivesPlaces ys b c → GivesPlaces (xs ++ ys) a c
 places_both xs ys a b c g h = record {

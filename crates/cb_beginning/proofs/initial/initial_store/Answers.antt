@@ -1,8 +1,6 @@
-use Rattle.std.proofs.Common.{◌≡◌, ◌-◌, ◌<◌, [], Some, get_or, drop, length, slice_get, sym, subst, ap, ◌∙◌, arith}
-use Rattle.std.proofs.lemmas.Grind.{common_steps}
+use Rattle.std.proofs.Common.{◌≡◌, ◌-◌, ◌<◌, get_or, drop, length, sym, subst, ap, ◌∙◌, arith}
 use Rattle.std.proofs.lemmas.Option.{slice_get-get_or}
-use Rattle.cb_spec.specs.declared.system.Machine.{Machine}
-use Rattle.cb_spec.specs.Stores.{empty, look_of}
+use Rattle.cb_spec.specs.Stores.{look_of}
 use Rattle.cb_spec.specs.States.{IsAt}
 use Rattle.cb_spec.specs.Journals.{set_sizes}
 use Rattle.cb_relation.specs.Performing.{CanRun, IsRunOf}

@@ -1,6 +1,5 @@
-use Rattle.std.proofs.Common.{◌≡◌, ◌++◌, take, flat_map, ap, subst, ◌∙◌}
+use Rattle.std.proofs.Common.{flat_map, subst, ◌∙◌}
 use Rattle.std.proofs.lemmas.List.{take_all}
-use Rattle.cb_term.specs.declared.name.Name.{Name}
 use Rattle.cb_spec.specs.declared.system.Operation.{Operation}
 use Rattle.cb_spec.specs.Bound.{names}
 use Rattle.cb_beginning.specs.Room.{GivesPlaces}

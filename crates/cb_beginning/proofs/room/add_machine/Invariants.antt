@@ -1,4 +1,4 @@
-use Rattle.std.proofs.Common.{◌++◌, take, flat_map}
+use Rattle.std.proofs.Common.{take, flat_map}
 use Rattle.cb_spec.specs.declared.system.Operation.{Operation}
 use Rattle.cb_spec.specs.Bound.{names}
 use Rattle.cb_beginning.specs.Room.{GivesPlaces}

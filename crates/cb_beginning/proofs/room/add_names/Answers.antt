@@ -1,4 +1,4 @@
-use Rattle.std.proofs.Common.{◌+◌, ◌∷◌, [], take, sym, subst}
+use Rattle.std.proofs.Common.{◌+◌, take, sym, subst}
 use Rattle.cb_term.specs.Values.{nothing}
 use Rattle.cb_spec.specs.Stores.{found, Puts}
 use Rattle.cb_spec.specs.Bound.{names}
