@@ -1,6 +1,7 @@
 -- The values with which machines begin.
 use Rattle.std.proofs.Common.{◌≡◌, ℕ, suc, ◌-◌, ◌<◌, ◌≤◌, Bool, true, false, ◌||◌, if◌then◌else◌, List, [], ◌∷◌, ◌++◌, length, get_or, drop, Option, Some, None, IsSome, refl, sym, ap, subst, ◌∙◌, arith}
 use Rattle.std.proofs.Math.Seq.{drop-cons, drop-length}
+use Rattle.std.proofs.lemmas.Option.{same_Some, slice_get-get_or}
 use Rattle.cb_term.specs.declared.name.Name.{Name}
 use Rattle.cb_term.specs.declared.kind.Kind.{Kind}
 use Rattle.cb_term.specs.declared.value.Value.{Value}
@@ -11,7 +12,7 @@ use Rattle.cb_spec.specs.declared.system.Machine.{Machine}
 use Rattle.cb_spec.specs.declared.system.System.{System}
 use Rattle.cb_spec.specs.SubstTree.{SubstTree, Skip, Assign, Together, Choice, If, AnyOf, SubstTrees, End, More}
 use Rattle.cb_spec.specs.Domains.{kind_of_domain}
-use Rattle.cb_spec.specs.Stores.{Writes, found, empty, SameMap}
+use Rattle.cb_spec.specs.Stores.{Writes, found, empty, SameMap, Puts}
 use Rattle.cb_spec.specs.Bound.{names, is_among}
 use Rattle.cb_spec.specs.Runs.{Runs, writes, one_writes}
 use Rattle.cb_spec.specs.Forms.{form_of_domain}
@@ -48,6 +49,21 @@ joined_same d e d' e' f g x = found_joined d e x ∙ (λ i. first (f x i) (g x i
 -- the entries from `left` on are written over the map
 abbrev pub WrittenFrom : Writes → Writes → Writes → ℕ → Type 0
 WrittenFrom es old new left = (left ≤ length es) × SameMap new (drop left es ++ old)
+
+-- one entry more is written, before them
+pub written_more : (es start old new : Writes) (left : ℕ) (d e : Name × Value) (x : Name) (v : Value) → 0 < left → x ≡ (get_or es (left - 1) d).0 → v ≡ (get_or es (left - 1) e).1 → Puts old new x v →
+    WrittenFrom es start old left → WrittenFrom es start new (left - 1)
+written_more es start old new left d e x v some x_is v_is puts h =
+    let k = left - 1 in
+    let low : k < length es = omega (arith, some, h.0) in
+    let up : left ≡ suc k = omega (arith, some) in
+    let p = get_or es k d in
+    let same : get_or es k e ≡ p = same_Some _ _ (sym (slice_get-get_or es k e low) ∙ slice_get-get_or es k d low) in
+    let value : v ≡ p.1 = v_is ∙ ap (λ (q : Name × Value). q.1) same in (
+      omega (arith, h.0),
+      λ y. puts.found_is y ∙ (λ i. if same_name y (x_is i) then Some (value i) else found old y) ∙ ap (λ o. if same_name y p.0 then Some p.1 else o) (h.1 y ∙ ap (λ n. found (drop n es ++ start) y) up)
+          ∙ ap (λ l. found (l ++ start) y) (sym (drop-cons es k d low)),
+    )
 
 -- ---- machines that begin
 

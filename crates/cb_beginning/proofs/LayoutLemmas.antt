@@ -86,9 +86,12 @@ adds c old new mid ks k laid more starts further places bodies = record {
   laid = bodies_stay c mid new.code ks further laid;
 }
 
--- each number of the order is that of a controller
+-- a number that is read of the order stands there, and is that of a controller
+pub number_at : (y : System) (ks : List ℕ) (n : ℕ) → ks ≡ y.order → n < length ks → IsAt y.order n (get_or ks n 0)
+number_at y ks n is low = subst (λ l. IsAt l n (get_or ks n 0)) is (slice_get-get_or ks n 0 low)
+
 pub its_number : (y : System) (ks : List ℕ) (n : ℕ) (c : Controller) → ks ≡ y.order → n < length ks → IsAt y.controllers (get_or ks n 0) c → IsNumbered y n c
-its_number y ks n c is low at = (get_or ks n 0, (subst (λ l. IsAt l n (get_or ks n 0)) is (slice_get-get_or ks n 0 low), at))
+its_number y ks n c is low at = (get_or ks n 0, (number_at y ks n is low, at))
 
 pub laid_more : (y : System) (n : ℕ) (c : Controller) (old new : Layout) → IsNumbered y n c → AddsController c old new → IsLaidTo y n old → IsLaidTo y (n + 1) new
 laid_more y n c old new its a h = record {

@@ -1,5 +1,12 @@
-use Rattle.cb_beginning.proofs.LayoutLemmas.{its_number, laid_more}
+use Rattle.std.proofs.Common.{get_or}
+use Rattle.cb_beginning.proofs.LayoutLemmas.{number_at, its_number, laid_more}
 use Rattle.cb_beginning.proofs.layout.lay_system.Goals as goal
+
+pub controller_at-requires : goal.controller_at-requires
+controller_at-requires c =
+    let ks = c.as_slice-at-items.result.now in
+    let n = c.loop-at.at-index in
+    c.requires n (get_or ks n 0) (number_at c.args.system.now ks n c.as_slice-at-items.ensures c.loop-at-test.true)
 
 pub loop-at-preserved : goal.loop-at-preserved
 loop-at-preserved c =
