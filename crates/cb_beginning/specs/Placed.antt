@@ -1,5 +1,5 @@
 -- Where controllers are, as the trees at their places, and where the bodies of their definitions are laid.
-use Rattle.std.specs.Prelude.{ℕ, ◌≡◌, ◌<◌, None, List, [], map, length}
+use Rattle.std.specs.Prelude.{ℕ, ◌≡◌, ◌<◌, List, map, length}
 use Rattle.cb_spec.specs.declared.system.Controller.{Controller}
 use Rattle.cb_spec.specs.declared.system.System.{System}
 use Rattle.cb_spec.specs.declared.state.Branch.{Branch}
