@@ -1,0 +1,252 @@
+//! A running system, whose journal is a run by its type.
+
+ghost use Rattle.std.specs.Prelude.{◌≡◌, ◌++◌, ◌∷◌, [], None, ◌<◌, length, IfOk, OnOk, OnErr};
+ghost use Rattle.cb_spec.specs.declared.system.Channel.{Channel};
+ghost use Rattle.cb_spec.specs.Journals.{events};
+ghost use Rattle.cb_spec.specs.States.{state_of};
+ghost use Rattle.cb_spec.specs.Sound.{Good};
+ghost use Rattle.cb_safety_laws.specs.Causes.{IsCall, Offers, Meet};
+ghost use Rattle.cb_beginning.specs.Placed.{state_in};
+ghost use Rattle.cb_system.specs.Views.{last_end, IsSame, MatchBool, HasSettle, HasOp, HasPass};
+
+use crate::branch::env_of;
+use crate::pass::passed_at;
+use crate::perform::performed_at;
+use crate::settled::{living_after, next, settled_at};
+use cb_code::code::Code;
+use cb_code::place::Place;
+use cb_relation::pick::Pick;
+use cb_spec::sound::SoundSpec;
+use cb_spec::state::{End, Entry};
+use cb_spec::store::Store;
+use cb_spec::system::System;
+use cb_term::Memory;
+use sqlite_items::Items;
+use std::alloc::Global;
+use std::marker::Model;
+use std::mem;
+
+/// A running system. Contracts see its system, its limit, its beginning, its journal and its state.
+#[derive(Drop)]
+pub struct Running {
+    sound: SoundSpec,
+    limit: u32,
+    initial: Store,
+    journal: Vec<Entry>,
+    count: u32,
+    end: Option<End>,
+    code: Code,
+    store: Store,
+    places: Vec<Place>,
+    bodies: Vec<Items<u32>>,
+    unsettled: u32,
+    living: u32,
+}
+
+impl Model for Running {
+    ghost use Rattle.std.specs.Prelude.{vec_len, vec_capacity};
+    ghost use Rattle.cb_beginning.specs.Placed.{state_in, Laid};
+    ghost use Rattle.cb_settling.specs.Calling.{IsRoomy};
+    ghost use Rattle.cb_system.specs.Views.{RunView};
+    ghost use Rattle.cb_system.specs.RunCodes.{run_code};
+    ghost use Rattle.cb_system.specs.Kept.{Keeps, AreCounted};
+
+    ghost Value = { RunView };
+
+    ghost coded = { run_code };
+
+    ghost view = { λ r. record { system = r.sound; limit = r.limit; initial = r.initial; journal = r.journal.items; state = state_in r.code r.store r.places.items } };
+
+    ghost invariant = { λ r. Keeps r.sound r.limit r.initial r.journal.items (state_in r.code r.store r.places.items) r.count r.end (vec_len r.journal) (vec_capacity r.journal) × Laid r.sound r.code r.places.items r.bodies.items × IsRoomy r.sound r.store × AreCounted r.places.items r.unsettled r.living };
+}
+
+impl Running {
+    /// The system.
+    pub fn spec(&self) -> &System
+        ensures { result.now ≡ self.now.system }
+    {
+        self.sound.spec()
+    }
+
+    /// What has happened.
+    pub fn journal(&self) -> &[Entry]
+        ensures { result.now ≡ self.now.journal }
+    {
+        self.journal.as_slice()
+    }
+
+    /// The values at the beginning.
+    pub fn initial(&self) -> &Store
+        ensures { result.now ≡ self.now.initial }
+    {
+        &self.initial
+    }
+
+    /// The values of machine variables.
+    pub fn store(&self) -> &Store
+        ensures { result.now ≡ self.now.state.store }
+    {
+        &self.store
+    }
+
+    /// The processes, and where among them each controller is, by their numbers.
+    pub fn places(&self) -> (&Code, &[Place])
+        ensures { self.now.state ≡ state_in result.0.now self.now.state.store result.1.now }
+    {
+        (&self.code, self.places.as_slice())
+    }
+
+    /// The cause that has ended the journal.
+    pub fn end_of(&self) -> Option<End>
+        ensures end { result ≡ last_end self.now.journal }
+        ensures good { Good self.now.system self.now.limit self.now.initial self.now.journal (state_of self.now.state) }
+    {
+        self.end
+    }
+
+    /// Ends the journal for want of memory.
+    pub fn stop_for_memory(&mut self)
+        requires { last_end self.old.journal ≡ None }
+        ensures system { self.new.system ≡ self.old.system }
+        ensures limit { self.new.limit ≡ self.old.limit }
+        ensures initial { self.new.initial ≡ self.old.initial }
+        ensures state { self.new.state ≡ self.old.state }
+        ensures journal { self.new.journal ≡ self.old.journal ++ Entry.End End.Memory ∷ [] }
+    {
+        self.journal.push_reserved(Entry::End(End::Memory));
+        self.end = Some(End::Memory);
+    }
+
+    // Resolves the process of the controller with this number, if it is at one.
+    fn settle_one<P: Pick>(
+        &mut self,
+        alloc: Global,
+        controller: u32,
+        pick: &mut P,
+    ) -> Result<bool, Memory>
+        requires open { last_end self.old.journal ≡ None }
+        requires more { events self.old.journal < self.old.limit }
+        requires range { controller < length self.old.system.order }
+        ensures system { self.new.system ≡ self.old.system }
+        ensures limit { self.new.limit ≡ self.old.limit }
+        ensures initial { self.new.initial ≡ self.old.initial }
+        ensures journal { IfOk result (λ b. MatchBool b (HasSettle controller self.old.journal self.new.journal) (IsSame self.old self.new)) }
+        ensures err { OnErr result (IsSame self.old self.new) }
+    {
+        self.journal.reserve(2)?;
+        let Some(settled) = settled_at(
+            alloc,
+            self.sound.spec(),
+            &self.code,
+            self.places.as_slice(),
+            self.bodies.as_slice(),
+            controller,
+            pick,
+        )?
+        else {
+            return Ok(false);
+        };
+        let (outcome, bits) = settled;
+        self.unsettled -= 1;
+        self.living = living_after(self.living, &outcome);
+        let at = controller as usize;
+        let place = mem::replace(&mut self.places[at], Place::Ended);
+        self.places[at] = next(place, outcome);
+        self.journal.push_reserved(Entry::Settle { controller, bits });
+        Ok(true)
+    }
+
+    // Performs the operation that a branch of the controller calls.
+    fn perform_one<P: Pick>(
+        &mut self,
+        alloc: Global,
+        controller: u32,
+        branch: u32,
+        pick: &mut P,
+    ) -> Result<(), Memory>
+        requires open { last_end self.old.journal ≡ None }
+        requires more { events self.old.journal < self.old.limit }
+        requires call { Offers IsCall (state_of self.old.state) controller branch }
+        ensures system { self.new.system ≡ self.old.system }
+        ensures limit { self.new.limit ≡ self.old.limit }
+        ensures initial { self.new.initial ≡ self.old.initial }
+        ensures journal { OnOk result (HasOp controller branch self.old.journal self.new.journal) }
+        ensures err { OnErr result (IsSame self.old self.new) }
+    {
+        self.journal.reserve(2)?;
+        let performed = performed_at(
+            alloc,
+            self.sound.spec(),
+            &self.code,
+            self.places.as_slice(),
+            &mut self.store,
+            controller,
+            branch,
+            pick,
+        )?;
+        self.count += 1;
+        self.unsettled += 1;
+        self.places[controller as usize] = Place::At {
+            process: performed.next,
+            env: performed.env,
+        };
+        self.journal.push_reserved(Entry::Op {
+            controller,
+            branch,
+            machine: performed.machine,
+            operation: performed.operation,
+            args: performed.args,
+            results: performed.called.results,
+            written: performed.called.written,
+        });
+        Ok(())
+    }
+
+    // Passes values from a branch of the channel's sender to one of its receiver.
+    fn pass_one(
+        &mut self,
+        alloc: Global,
+        channel: u32,
+        sent: u32,
+        got: u32,
+    ) -> Result<(), Memory>
+        requires open { last_end self.old.journal ≡ None }
+        requires more { events self.old.journal < self.old.limit }
+        requires meet { (ch : Channel) × Meet self.old.system (state_of self.old.state) channel sent got ch }
+        ensures system { self.new.system ≡ self.old.system }
+        ensures limit { self.new.limit ≡ self.old.limit }
+        ensures initial { self.new.initial ≡ self.old.initial }
+        ensures journal { OnOk result (HasPass channel sent got self.old.journal self.new.journal) }
+        ensures err { OnErr result (IsSame self.old self.new) }
+    {
+        self.journal.reserve(2)?;
+        let passed = passed_at(
+            alloc,
+            self.sound.spec(),
+            &self.code,
+            self.places.as_slice(),
+            channel,
+            sent,
+            got,
+        )?;
+        self.count += 1;
+        self.unsettled += 2;
+        let from = passed.sender as usize;
+        let place = mem::replace(&mut self.places[from], Place::Ended);
+        self.places[from] = Place::At {
+            process: passed.out_next,
+            env: env_of(place),
+        };
+        self.places[passed.receiver as usize] = Place::At {
+            process: passed.in_next,
+            env: passed.env,
+        };
+        self.journal.push_reserved(Entry::Pass {
+            channel,
+            sent,
+            got,
+            values: passed.values,
+        });
+        Ok(())
+    }
+}
