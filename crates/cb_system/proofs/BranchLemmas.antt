@@ -15,7 +15,7 @@ use Rattle.cb_code.specs.Nodes.{part, tree_of, PartsBelow}
 use Rattle.cb_code.proofs.CodeLemmas.{part_is}
 use Rattle.cb_settling.specs.Branches.{IsPrefix, ArePrefixes, offered, branches_at}
 use Rattle.cb_beginning.specs.Placed.{tree_control, state_in}
-use Rattle.cb_system.specs.Branches.{AreOffered, HasBranch, IsBranch}
+use Rattle.cb_system.specs.Branches.{AreOffered, HasBranch, IsShown, IsBranch}
 use Rattle.cb_system.proofs.PlaceLemmas.{seen, ready_seen, get_map, control_at}
 
 -- ---- as code finds them
@@ -59,11 +59,13 @@ module _ (ps : List ProcessTree) (places : List Place) (i b : ℕ) (all : AreOff
   pub branch_found : (p : Place) (ks : List ℕ) (env : Writes) (k : ℕ) (n : Node) (e : Event) (next : ℕ) → p ≡ get_or places i p → p ≡ Ready ks env → k ≡ has.prefix →
       slice_get ps k ≡ Some (tree_of ps n) → PartsBelow k n → n ≡ node.Prefix e next → IsBranch ps places i b e next env
   branch_found p ks env k n e next is same k_is at below n_is = record {
-    prefixes = ks;
-    at = has.at ∙ ap Some (sym (ready_is p is) ∙ same);
-    prefix = k;
-    listed = subst (λ l. IsAt l b k) (sym (prefixes_are p ks env is same)) (has.listed ∙ ap Some (sym k_is));
-    is = part_is ps k (tree_of ps n) at ∙ ap (tree_of ps) n_is;
+    shown = record {
+      prefixes = ks;
+      at = has.at ∙ ap Some (sym (ready_is p is) ∙ same);
+      prefix = k;
+      listed = subst (λ l. IsAt l b k) (sym (prefixes_are p ks env is same)) (has.listed ∙ ap Some (sym k_is));
+      is = part_is ps k (tree_of ps n) at ∙ ap (tree_of ps) n_is;
+    };
     within = let low : next < k = subst (PartsBelow k) n_is below in let high = code_within k k_is in omega (arith, low, high);
   }
 
@@ -85,20 +87,20 @@ module _ (ps : List ProcessTree) (store : Writes) (places : List Place) (i b : �
           let k = at_map (λ k. offered (part ps k) (look_of env)) ks b o.1 (subst (λ (bs : List BranchView). IsAt bs b o.1) same o.3) in
           record { prefixes = ks; env = env; prefix = k.0; at = at; listed = k.1 }
 
-  module _ (e : Event) (next : ℕ) (env : Writes) (r : IsBranch ps places i b e next env) where
+  module _ (e : Event) (q : ProcessTree) (env : Writes) (r : IsShown ps places i b e q env) where
     pub from_place : IsAt (state_of (state_in ps store places)).controls i (Offering (branches_at ps r.prefixes (look_of env)))
     from_place = control_at ps store places i (Ready r.prefixes env) r.at ∙ ap Some (ready_seen ps r.prefixes env)
 
-    pub branch_there : IsAt (branches_at ps r.prefixes (look_of env)) b (record { event = e; next = part ps next; env = look_of env })
+    pub branch_there : IsAt (branches_at ps r.prefixes (look_of env)) b (record { event = e; next = q; env = look_of env })
     branch_there = get_map (λ k. offered (part ps k) (look_of env)) r.prefixes b r.prefix r.listed ∙ ap (λ p. Some (offered p (look_of env))) r.is
 
     -- so it is the event that is offered in the state
     pub event_is : (P : Event → Type 0) → Offers P (state_of (state_in ps store places)) i b → P e
     event_is P o =
         let same : o.0 ≡ branches_at ps r.prefixes (look_of env) = let f = two_at (state_of (state_in ps store places)).controls i (Offering o.0) (Offering (branches_at ps r.prefixes (look_of env))) o.2 from_place in cc in
-        let branch = two_at (branches_at ps r.prefixes (look_of env)) b o.1 (record { event = e; next = part ps next; env = look_of env }) (subst (λ (bs : List BranchView). IsAt bs b o.1) same o.3) branch_there in
+        let branch = two_at (branches_at ps r.prefixes (look_of env)) b o.1 (record { event = e; next = q; env = look_of env }) (subst (λ (bs : List BranchView). IsAt bs b o.1) same o.3) branch_there in
         subst P (ap (λ (v : BranchView). v.event) branch) o.4
 
     -- and the branch may be found so
     pub offered_so : (P : Event → Type 0) → P e → Offers P (state_of (state_in ps store places)) i b
-    offered_so P h = (branches_at ps r.prefixes (look_of env), record { event = e; next = part ps next; env = look_of env }, from_place, branch_there, h)
+    offered_so P h = (branches_at ps r.prefixes (look_of env), record { event = e; next = q; env = look_of env }, from_place, branch_there, h)

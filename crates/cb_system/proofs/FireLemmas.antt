@@ -57,15 +57,15 @@ module _ (y : System) (ps : List ProcessTree) (store : Writes) (places : List Pl
 
   module _ (i b k j : ℕ) (ts : List TermTree) (xs : List Name) (next : ℕ) (env : Writes) (r : IsBranch ps places i b (event.Call k j ts xs) next env) where
     pub call_args : AreTypedIn (set_sizes y) (look_of env) ts
-    call_args = call_typed y good.limit good.beginning good.journal state good.good i b _ (part ps next) (look_of env) (from_place ps store places i b _ next env r) k j ts xs (branch_there ps store places i b _ next env r)
+    call_args = call_typed y good.limit good.beginning good.journal state good.good i b _ (part ps next) (look_of env) (from_place ps store places i b _ _ env r.shown) k j ts xs (branch_there ps store places i b _ _ env r.shown)
 
     pub call_can : (args : List Value) → AreValues (set_sizes y) (look_of env) ts args → CanCall y k j args (look_of store)
-    call_can args are = can_call y good.limit good.beginning good.journal state good.good i b _ (part ps next) (look_of env) (from_place ps store places i b _ next env r) k j ts xs (branch_there ps store places i b _ next env r) args are
+    call_can args are = can_call y good.limit good.beginning good.journal state good.good i b _ (part ps next) (look_of env) (from_place ps store places i b _ _ env r.shown) k j ts xs (branch_there ps store places i b _ _ env r.shown) args are
 
     -- a call gives as many results as it has names for them
     pub targets_many : (m : Machine) (o : Operation) (args : List Value) (c : Called) → IsAt y.machines k m → IsAt m.operations j o → IsCalled (set_sizes y) m o args (look_of store) c → length xs ≡ length c.results
     targets_many m o args c at listed called =
-        let here = offered_is_fine y good.good.typed good.good.sound state good.good.fit i b _ _ (from_place ps store places i b _ next env r) (branch_there ps store places i b _ next env r) in
+        let here = offered_is_fine y good.good.typed good.good.sound state good.good.fit i b _ _ (from_place ps store places i b _ _ env r.shown) (branch_there ps store places i b _ _ env r.shown) in
         let f = here.2 in
         let km = some_and (slice_get y.machines k) _ f.typed.2 in
         let jo = some_and (slice_get km.0.operations j) _ km.2 in
@@ -80,12 +80,12 @@ module _ (y : System) (ps : List ProcessTree) (store : Writes) (places : List Pl
 
   module _ (i b k : ℕ) (ts : List TermTree) (said : Option FormulaTree) (next : ℕ) (env : Writes) (r : IsBranch ps places i b (event.Output k ts said) next env) where
     pub output_args : AreTypedIn (set_sizes y) (look_of env) ts
-    output_args = output_typed y good.limit good.beginning good.journal state good.good i b _ (part ps next) (look_of env) (from_place ps store places i b _ next env r) k ts said (branch_there ps store places i b _ next env r)
+    output_args = output_typed y good.limit good.beginning good.journal state good.good i b _ (part ps next) (look_of env) (from_place ps store places i b _ _ env r.shown) k ts said (branch_there ps store places i b _ _ env r.shown)
 
     -- the controller is the channel's sender, and it sends as many values as the channel has
     pub sends_so : (ch : Channel) → IsAt y.channels k ch → (ch.sender ≡ i) × (length ts ≡ length ch.values)
     sends_so ch at =
-        let here = offered_is_fine y good.good.typed good.good.sound state good.good.fit i b _ _ (from_place ps store places i b _ next env r) (branch_there ps store places i b _ next env r) in
+        let here = offered_is_fine y good.good.typed good.good.sound state good.good.fit i b _ _ (from_place ps store places i b _ _ env r.shown) (branch_there ps store places i b _ _ env r.shown) in
         let c = some_and (slice_get y.channels k) _ here.2.typed.0 in
         let same : c.0 ≡ ch = two_at y.channels k c.0 ch c.1 at in
         (ap (λ (d : Channel). d.sender) (sym same) ∙ c.2.0, args_many _ _ _ c.0.values ts c.2.1 ∙ ap (λ (d : Channel). length d.values) same)
@@ -94,7 +94,7 @@ module _ (y : System) (ps : List ProcessTree) (store : Writes) (places : List Pl
     -- the controller is the channel's receiver, and it has as many names as the channel has values
     pub receives_so : (ch : Channel) → IsAt y.channels k ch → (ch.receiver ≡ i) × (length xs ≡ length ch.values)
     receives_so ch at =
-        let here = offered_is_fine y good.good.typed good.good.sound state good.good.fit i b _ _ (from_place ps store places i b _ next env r) (branch_there ps store places i b _ next env r) in
+        let here = offered_is_fine y good.good.typed good.good.sound state good.good.fit i b _ _ (from_place ps store places i b _ _ env r.shown) (branch_there ps store places i b _ _ env r.shown) in
         let c = some_and (slice_get y.channels k) _ here.2.typed.1 in
         let same : c.0 ≡ ch = two_at y.channels k c.0 ch c.1 at in
         (ap (λ (d : Channel). d.receiver) (sym same) ∙ c.2.0, c.2.1 ∙ ap (λ (d : Channel). length d.values) same)

@@ -68,8 +68,8 @@ module _ (y : System) (limit : ℕ) (s0 : Writes) (es : List Entry) (ps : List P
         let to : ControlView = AtProcess (part ps r.next) (over (bind p.targets r.called.results) (look_of p.here)) in
         let seen_is : seen ps last ≡ to = ap (AtProcess (part ps r.next)) p.bound in
         let controls : slice_set now.controls i to ≡ (state_of t).controls = ap (slice_set now.controls i) (sym seen_is) ∙ sym (controls_set ps places i last) in
-        let from = operating y now i b r.machine r.operation _ p.terms p.targets (part ps r.next) (look_of p.here) r.args p.machine p.operation r.called (from_place ps store places i b _ r.next p.here p.branch)
-        (branch_there ps store places i b _ r.next p.here p.branch) p.arguments p.its p.listed p.called in
+        let from = operating y now i b r.machine r.operation _ p.terms p.targets (part ps r.next) (look_of p.here) r.args p.machine p.operation r.called (from_place ps store places i b _ _ p.here p.branch.shown)
+        (branch_there ps store places i b _ _ p.here p.branch.shown) p.arguments p.its p.listed p.called in
         let lawful : Operating y now i b r.machine r.operation r.args r.called.results r.called.written (state_of t) =
         subst (λ (l : Look). Operating y now i b r.machine r.operation r.args r.called.results r.called.written (record { store = l; controls = (state_of t).controls })) (sym store_is)
         (subst (λ (cs : List ControlView). Operating y now i b r.machine r.operation r.args r.called.results r.called.written (record { store = over r.called.written (look_of store); controls = cs })) controls from) in
@@ -78,7 +78,7 @@ module _ (y : System) (limit : ℕ) (s0 : Writes) (es : List Entry) (ps : List P
         subst (λ (o : Option End). Keeps y limit s0 new t count' o len' room') (sym (h.0.end_is ∙ none))
         (keeps_more _ _ _ _ _ _ _ _ _ h.0 e t new count' len' room' none step is (omega (arith, count_is)) (λ n. fits)) in
         let roomy = room_written y h.0.good.typed r.machine p.machine p.its r.called.written (kept_own (names p.machine.variables) r.called.written p.called.0 p.called.1.2) store left keeps store_is h.2 in
-        (journal, fired_laid i b r.next p.branch.prefixes p.here r.env p.branch.at p.branch.within, roomy, fired_counts i b r.next p.branch.prefixes p.here r.env p.branch.at p.branch.within unsettled' unsettled_is)
+        (journal, fired_laid i b r.next p.branch.shown.prefixes p.here r.env p.branch.shown.at p.branch.within, roomy, fired_counts i b r.next p.branch.shown.prefixes p.here r.env p.branch.shown.at p.branch.within unsettled' unsettled_is)
 
   -- after want of memory
   pub step_failed : (len' room' : ℕ) (left : Writes) → look_of left ≡ look_of store → KeepsNames store left → (end ≡ None → len' < room') →
@@ -99,7 +99,7 @@ module _ (y : System) (limit : ℕ) (s0 : Writes) (es : List Entry) (ps : List P
         let p = passed in
         let c = h.0.good.typed.channels k p.channel p.its in
         let all = c.two_ends (sym p.sender ∙ e ∙ p.receiver) in
-        let low = slice_get_within places p.channel.sender _ p.out.at in
+        let low = slice_get_within places p.channel.sender _ p.out.shown.at in
         let m = h.1.many in
         let n = h.0.good.typed.numbers in
         omega (arith, all, low, m, n)
@@ -112,19 +112,19 @@ module _ (y : System) (limit : ℕ) (s0 : Writes) (es : List Entry) (ps : List P
           channel = p.channel;
           its = p.its;
           outs = _;
-          sender = from_place ps store places p.channel.sender sent _ r.out_next p.out_env p.out;
+          sender = from_place ps store places p.channel.sender sent _ _ p.out_env p.out.shown;
           terms = p.terms;
           guarantee = p.guarantee;
           out_next = part ps r.out_next;
           out_env = look_of p.out_env;
-          out = branch_there ps store places p.channel.sender sent _ r.out_next p.out_env p.out;
+          out = branch_there ps store places p.channel.sender sent _ _ p.out_env p.out.shown;
           ins = _;
-          receiver = from_place ps store places p.channel.receiver rec _ r.in_next p.in_env p.into;
+          receiver = from_place ps store places p.channel.receiver rec _ _ p.in_env p.into.shown;
           targets = p.targets;
           assume = p.assume;
           in_next = part ps r.in_next;
           in_env = look_of p.in_env;
-          into = branch_there ps store places p.channel.receiver rec _ r.in_next p.in_env p.into;
+          into = branch_there ps store places p.channel.receiver rec _ _ p.in_env p.into.shown;
           sent_values = p.values;
           after = λ j. record { store = store_is j; controls = controls_are j };
         }
@@ -152,13 +152,13 @@ module _ (y : System) (limit : ℕ) (s0 : Writes) (es : List Entry) (ps : List P
         let journal : Keeps y limit s0 new t count' end len' room' =
         subst (λ (o : Option End). Keeps y limit s0 new t count' o len' room') (sym (h.0.end_is ∙ none))
         (keeps_more _ _ _ _ _ _ _ _ _ h.0 e t new count' len' room' none step is (omega (arith, count_is)) (λ n. fits)) in
-        let at : IsAt places r.sender (Ready p.out.prefixes p.out_env) = subst (λ n. IsAt places n (Ready p.out.prefixes p.out_env)) (sym p.sender) p.out.at in
-        let at_in : IsAt mid r.receiver (Ready p.into.prefixes p.in_env) =
-        other_at places r.sender r.receiver out ends_differ ∙ subst (λ n. IsAt places n (Ready p.into.prefixes p.in_env)) (sym p.receiver) p.into.at in
-        let a = sum_set is_unsettled places r.sender out (Ready p.out.prefixes p.out_env) at in
-        let b = sum_set is_living places r.sender out (Ready p.out.prefixes p.out_env) at in
-        let c = sum_set is_unsettled mid r.receiver into (Ready p.into.prefixes p.in_env) at_in in
-        let d = sum_set is_living mid r.receiver into (Ready p.into.prefixes p.in_env) at_in in
+        let at : IsAt places r.sender (Ready p.out.shown.prefixes p.out_env) = subst (λ n. IsAt places n (Ready p.out.shown.prefixes p.out_env)) (sym p.sender) p.out.shown.at in
+        let at_in : IsAt mid r.receiver (Ready p.into.shown.prefixes p.in_env) =
+        other_at places r.sender r.receiver out ends_differ ∙ subst (λ n. IsAt places n (Ready p.into.shown.prefixes p.in_env)) (sym p.receiver) p.into.shown.at in
+        let a = sum_set is_unsettled places r.sender out (Ready p.out.shown.prefixes p.out_env) at in
+        let b = sum_set is_living places r.sender out (Ready p.out.shown.prefixes p.out_env) at in
+        let c = sum_set is_unsettled mid r.receiver into (Ready p.into.shown.prefixes p.in_env) at_in in
+        let d = sum_set is_living mid r.receiver into (Ready p.into.shown.prefixes p.in_env) at_in in
         let u = h.3.unsettled_is in
         let l = h.3.living_is in
         (

@@ -2,5 +2,8 @@ pub mod JournalLemmas
 pub mod PlaceLemmas
 pub mod StepLemmas
 pub mod BranchLemmas
+pub mod CountLemmas
 pub mod FireLemmas
 pub mod FiredLemmas
+pub mod RowLemmas
+pub mod CauseLemmas

@@ -27,11 +27,15 @@ pub record HasBranch (places : List Place) (i b : ℕ) : Type 0 where
   pub at : IsAt places i (Ready prefixes env)
   pub listed : IsAt prefixes b prefix
 
--- the controller's branch with the number b is this event, what follows it is at this place, and names stand for these values
-pub record IsBranch (ps : List ProcessTree) (places : List Place) (i b : ℕ) (e : Event) (next : ℕ) (env : Writes) : Type 0 where
+-- the controller's branch with the number b is this event, this process follows, and names stand for these values
+pub record IsShown (ps : List ProcessTree) (places : List Place) (i b : ℕ) (e : Event) (q : ProcessTree) (env : Writes) : Type 0 where
   pub prefixes : List ℕ
   pub at : IsAt places i (Ready prefixes env)
   pub prefix : ℕ
   pub listed : IsAt prefixes b prefix
-  pub is : part ps prefix ≡ Prefix e (part ps next)
+  pub is : part ps prefix ≡ Prefix e q
+
+-- and what follows is at this place
+pub record IsBranch (ps : List ProcessTree) (places : List Place) (i b : ℕ) (e : Event) (next : ℕ) (env : Writes) : Type 0 where
+  pub shown : IsShown ps places i b e (part ps next) env
   pub within : next < length ps

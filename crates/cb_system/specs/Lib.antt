@@ -4,3 +4,4 @@ pub mod Kept
 pub mod Moves
 pub mod Branches
 pub mod Firing
+pub mod Rows
