@@ -7,6 +7,8 @@ use Rattle.cb_spec.specs.ProcessTree.{ProcessTree, Stop, Skip, Call, Prefix, Cho
 use Rattle.cb_code.specs.declared.place.Place.{Place}
 use Rattle.cb_code.specs.declared.place.Place.TheVariants.{At, Ready, Ended}
 use Rattle.cb_code.specs.Nodes.{part}
+use Rattle.cb_settling.specs.declared.settle.Outcome.{Outcome}
+use Rattle.cb_settling.specs.declared.settle.Outcome.TheVariants.{Shown, Over}
 use Rattle.cb_offers.specs.declared.offers.Side.{Side}
 use Rattle.cb_offers.specs.declared.offers.Side.TheVariants as side
 
@@ -37,3 +39,8 @@ row_at ps Ended = []
 
 abbrev pub rows_at : List ProcessTree → List Place → List (List Side)
 rows_at ps places = map (row_at ps) places
+
+-- what is offered by a controller whose process is resolved to this
+abbrev pub row_shown : List ProcessTree → Outcome → List Side
+row_shown ps (Shown ks own) = sides_at ps ks
+row_shown ps Over = []

@@ -1,5 +1,5 @@
 -- What a running value stands for.
-use Rattle.std.specs.Prelude.{ℕ, ◌≡◌, Bool, true, false, Option, Some, None, List, [], ◌∷◌, ◌++◌}
+use Rattle.std.specs.Prelude.{ℕ, ◌≡◌, Option, Some, None, List, [], ◌∷◌, ◌++◌}
 use Rattle.cb_term.specs.declared.value.Value.{Value}
 use Rattle.cb_spec.specs.declared.system.System.{System}
 use Rattle.cb_spec.specs.declared.state.State.{State}
@@ -40,10 +40,6 @@ last_end (e ∷ []) = as_end e
 last_end (e ∷ x ∷ xs) = last_end (x ∷ xs)
 
 -- ---- what has come to a journal
-
-abbrev pub MatchBool : Bool → Type 0 → Type 0 → Type 0
-MatchBool true P Q = P
-MatchBool false P Q = Q
 
 -- a Settle of the controller
 abbrev pub HasSettle : ℕ → List Entry → List Entry → Type 0

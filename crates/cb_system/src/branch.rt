@@ -10,6 +10,7 @@ use cb_spec::event::Event;
 use cb_spec::store::Store;
 
 /// A branch that a controller offers.
+#[derive(Clone, Copy)]
 pub struct Branch<'a> {
     pub event: &'a Event,
     /// The place of the process that follows.

@@ -1,13 +1,13 @@
 //! A running system, whose journal is a run by its type.
 
-ghost use Rattle.std.specs.Prelude.{◌≡◌, ◌++◌, ◌∷◌, [], None, ◌<◌, length, IfOk, OnOk, OnErr};
+ghost use Rattle.std.specs.Prelude.{◌≡◌, ◌++◌, ◌∷◌, [], None, ◌<◌, length, IfOk, OnOk, OnErr, MatchBool};
 ghost use Rattle.cb_spec.specs.declared.system.Channel.{Channel};
 ghost use Rattle.cb_spec.specs.Journals.{events};
 ghost use Rattle.cb_spec.specs.States.{state_of};
 ghost use Rattle.cb_spec.specs.Sound.{Good};
 ghost use Rattle.cb_safety_laws.specs.Causes.{IsCall, Offers, Meet};
 ghost use Rattle.cb_beginning.specs.Placed.{state_in};
-ghost use Rattle.cb_system.specs.Views.{last_end, IsSame, MatchBool, HasSettle, HasOp, HasPass};
+ghost use Rattle.cb_system.specs.Views.{last_end, IsSame, HasSettle, HasOp, HasPass};
 
 use crate::branch::env_of;
 use crate::pass::passed_at;
@@ -130,8 +130,8 @@ impl Running {
         ensures system { self.new.system ≡ self.old.system }
         ensures limit { self.new.limit ≡ self.old.limit }
         ensures initial { self.new.initial ≡ self.old.initial }
-        ensures journal { IfOk result (λ b. MatchBool b (HasSettle controller self.old.journal self.new.journal) (IsSame self.old self.new)) }
-        ensures err { OnErr result (IsSame self.old self.new) }
+        ensures journal { IfOk result (λ b. MatchBool b (HasSettle controller self.old.journal self.new.journal) (self.new ≡ self.old)) }
+        ensures err { OnErr result (self.new ≡ self.old) }
     {
         self.journal.reserve(2)?;
         let Some(settled) = settled_at(
@@ -217,7 +217,7 @@ impl Running {
         ensures limit { self.new.limit ≡ self.old.limit }
         ensures initial { self.new.initial ≡ self.old.initial }
         ensures journal { OnOk result (HasPass channel sent got self.old.journal self.new.journal) }
-        ensures err { OnErr result (IsSame self.old self.new) }
+        ensures err { OnErr result (self.new ≡ self.old) }
     {
         self.journal.reserve(2)?;
         let passed = passed_at(
