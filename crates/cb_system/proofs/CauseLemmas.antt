@@ -82,12 +82,12 @@ module _ (y : System) (ps : List ProcessTree) (store : Writes) (places : List Pl
   abbrev rows : List (List Side)
   rows = rows_at ps places
 
-  sender_is : (k i b : ℕ) → Offers (IsOutput k) state i b → (ch : Channel) × IsAt y.channels k ch × (ch.sender ≡ i)
+  pub sender_is : (k i b : ℕ) → Offers (IsOutput k) state i b → (ch : Channel) × IsAt y.channels k ch × (ch.sender ≡ i)
   sender_is k i b o =
       let f = offered_is_fine y good.good.typed good.good.sound state good.good.fit i b o.0 o.1 o.2 o.3 in
       typed_sender y i k f.0 f.2.scope f.2.taken o.1.next o.1.event o.4 f.2.typed
 
-  receiver_is : (k i b : ℕ) → Offers (IsInput k) state i b → (ch : Channel) × IsAt y.channels k ch × (ch.receiver ≡ i)
+  pub receiver_is : (k i b : ℕ) → Offers (IsInput k) state i b → (ch : Channel) × IsAt y.channels k ch × (ch.receiver ≡ i)
   receiver_is k i b o =
       let f = offered_is_fine y good.good.typed good.good.sound state good.good.fit i b o.0 o.1 o.2 o.3 in
       typed_receiver y i k f.0 f.2.scope f.2.taken o.1.next o.1.event o.4 f.2.typed
@@ -97,10 +97,10 @@ module _ (y : System) (ps : List ProcessTree) (store : Writes) (places : List Pl
   pub call_there : (i b : ℕ) → IsOffered rows i b side.Call → Offers IsCall state i b
   call_there i b at = let r = branch_of_side ps places all i b side.Call at in offered_so ps store places i b r.0 r.1 r.2 r.3 IsCall (call_event r.0 r.4)
 
-  output_there : (k i b : ℕ) → IsOffered rows i b (side.Output k) → Offers (IsOutput k) state i b
+  pub output_there : (k i b : ℕ) → IsOffered rows i b (side.Output k) → Offers (IsOutput k) state i b
   output_there k i b at = let r = branch_of_side ps places all i b (side.Output k) at in offered_so ps store places i b r.0 r.1 r.2 r.3 (IsOutput k) (output_event k r.0 r.4)
 
-  input_there : (k i b : ℕ) → IsOffered rows i b (side.Input k) → Offers (IsInput k) state i b
+  pub input_there : (k i b : ℕ) → IsOffered rows i b (side.Input k) → Offers (IsInput k) state i b
   input_there k i b at = let r = branch_of_side ps places all i b (side.Input k) at in offered_so ps store places i b r.0 r.1 r.2 r.3 (IsInput k) (input_event k r.0 r.4)
 
   -- branches that meet in the table meet in the state

@@ -1,5 +1,5 @@
 -- Journals that are one entry longer.
-use Rattle.std.proofs.Common.{◌≡◌, ℕ, ◌+◌, ◌<◌, Option, Some, None, List, [], ◌∷◌, ◌++◌, refl, sym, ap, subst, ◌∙◌, arith}
+use Rattle.std.proofs.Common.{◌≡◌, ℕ, ◌+◌, ◌<◌, ◌≤◌, Option, Some, None, List, [], ◌∷◌, ◌++◌, refl, sym, ap, subst, ◌∙◌, arith}
 use Rattle.cb_spec.specs.declared.system.System.{System}
 use Rattle.cb_spec.specs.declared.state.State.{State}
 use Rattle.cb_spec.specs.declared.state.Entry.{Entry}
@@ -48,16 +48,24 @@ module _ (y : System) (limit : ℕ) (s0 : Writes) (es : List Entry) (s : State) 
   keeps_more e t new count' len' room' none step is count_is space = subst (λ (l : List Entry). Keeps y limit s0 l t count' (as_end e) len' room') (sym is) (record {
     good = good_is_kept y limit s0 es (state_of s) e (state_of t) k.good step;
     count_is = (let c = k.count_is in let m = events_more es e in omega (arith, c, m, count_is));
+    within = by e step count_is;
     end_is = sym (end_more es e);
     goes_on = λ n. open_more es e (is_open none) n;
     space = space;
   })
+    where
+      by : (e : Entry) → Step y limit es (state_of s) e (state_of t) → count' ≡ count + events (e ∷ []) → count' ≤ limit
+      by (entry.Settle i bits) r c = let w = k.within in omega (arith, c, w)
+      by (entry.Op i b m j args results written) r c = let w = k.count_is in let l = r.1 in omega (arith, c, w, l)
+      by (entry.Pass m sent rec vs) r c = let w = k.count_is in let l = r.1 in omega (arith, c, w, l)
+      by (entry.End d) r c = let w = k.within in omega (arith, c, w)
 
   -- in another state in which names stand for the same
   pub keeps_same : (t : State) (len' room' : ℕ) → state_of t ≡ state_of s → (end ≡ None → len' < room') → Keeps y limit s0 es t count end len' room'
   keeps_same t len' room' same space = record {
     good = subst (Good y limit s0 es) (sym same) k.good;
     count_is = k.count_is;
+    within = k.within;
     end_is = k.end_is;
     goes_on = k.goes_on;
     space = space;

@@ -4,6 +4,8 @@ pub mod StepLemmas
 pub mod BranchLemmas
 pub mod CountLemmas
 pub mod FireLemmas
+pub mod CallLemmas
+pub mod PassLemmas
 pub mod FiredLemmas
 pub mod RowLemmas
 pub mod CauseLemmas

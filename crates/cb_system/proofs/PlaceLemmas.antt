@@ -37,6 +37,11 @@ set_twice [] k x z = refl
 set_twice (y ∷ xs) zero x z = refl
 set_twice (y ∷ xs) (suc k) x z = ap (λ ys. y ∷ ys) (set_twice xs k x z)
 
+pub get_same : {A : Type 0} (xs : List A) (k : ℕ) (x z : A) → IsAt xs k z → IsAt (slice_set xs k x) k x
+get_same [] k x z at = absurd (cc)
+get_same (y ∷ xs) zero x z at = refl
+get_same (y ∷ xs) (suc k) x z at = get_same xs k x z at
+
 pub other_at : {A : Type 0} (xs : List A) (k j : ℕ) (x : A) → (k ≡ j → ⊥) → slice_get (slice_set xs k x) j ≡ slice_get xs j
 other_at [] k j x apart = refl
 other_at (y ∷ xs) zero zero x apart = absurd (apart refl)

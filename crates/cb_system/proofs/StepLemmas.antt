@@ -1,5 +1,5 @@
 -- A running value keeps what it keeps: the steps over plain values.
-use Rattle.std.proofs.Common.{◌≡◌, ℕ, ◌+◌, ◌-◌, ◌<◌, List, [], ◌∷◌, ◌++◌, map, length, slice_set, Option, Some, None, refl, sym, ap, subst, ◌∙◌, arith}
+use Rattle.std.proofs.Common.{◌≡◌, ℕ, ◌+◌, ◌-◌, ◌<◌, List, [], ◌∷◌, ◌++◌, map, length, slice_set, Option, Some, None, IfSome, refl, sym, ap, subst, ◌∙◌, arith}
 use Rattle.std.specs.List.{sum_by}
 use Rattle.cb_spec.specs.declared.state.Entry.{Entry}
 use Rattle.cb_spec.specs.declared.state.Entry.TheVariants as entry
@@ -39,6 +39,13 @@ outcome_laid ps env Over h = tt
 outcome_counts : (env : Writes) (o : Outcome) → (is_unsettled (after env o) ≡ 0) × (is_living (after env o) ≡ lives o)
 outcome_counts env (Shown ks own) = (refl, refl)
 outcome_counts env Over = (refl, refl)
+
+-- what was found of the fields
+pub settled_fact : (y z : System) (ps : List ProcessTree) (places slice : List Place) (i : ℕ) (o : Option (Outcome × ℕ)) (r : Outcome × ℕ) → IfSome o (λ (q : Outcome × ℕ). SettledAt z ps slice i q.0 q.1) → o ≡ Some r → z ≡ y → slice ≡ places →
+    SettledAt y ps places i r.0 r.1
+settled_fact y z ps places slice i o r h is same sliced =
+    let some : SettledAt z ps slice i r.0 r.1 = subst (λ (p : Option (Outcome × ℕ)). IfSome p (λ (q : Outcome × ℕ). SettledAt z ps slice i q.0 q.1)) is h in
+    subst (λ (w : System). SettledAt w ps places i r.0 r.1) same (subst (λ (ls : List Place). SettledAt z ps ls i r.0 r.1) sliced some)
 
 module _ (y : System) (limit : ℕ) (s0 : Writes) (es : List Entry) (ps : List ProcessTree) (store : Writes) (places : List Place) (bodies : List (List ℕ)) (count : ℕ) (end : Option End) (len room unsettled living : ℕ)
     (h : Keeps y limit s0 es (state_in ps store places) count end len room × Laid y ps places bodies × IsRoomy y store × AreCounted places unsettled living) where

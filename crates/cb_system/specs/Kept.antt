@@ -1,5 +1,5 @@
 -- What the fields of a running value keep.
-use Rattle.std.specs.Prelude.{ℕ, ◌≡◌, ◌<◌, Option, None, List}
+use Rattle.std.specs.Prelude.{ℕ, ◌≡◌, ◌<◌, ◌≤◌, Option, None, List}
 use Rattle.std.specs.List.{sum_by}
 use Rattle.cb_spec.specs.declared.system.System.{System}
 use Rattle.cb_spec.specs.declared.state.State.{State}
@@ -19,6 +19,7 @@ use Rattle.cb_system.specs.Views.{last_end}
 pub record Keeps (y : System) (limit : ℕ) (s0 : Writes) (es : List Entry) (s : State) (count : ℕ) (end : Option End) (len room : ℕ) : Type 0 where
   pub good : Good y limit s0 es (state_of s)
   pub count_is : count ≡ events es
+  pub within : count ≤ limit
   pub end_is : end ≡ last_end es
   pub goes_on : end ≡ None → IsOpen es
   pub space : end ≡ None → len < room
