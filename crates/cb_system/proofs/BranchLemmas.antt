@@ -1,5 +1,5 @@
 -- Branches that controllers offer: as code finds them, and as the state has them.
-use Rattle.std.proofs.Common.{◌≡◌, ℕ, zero, suc, ◌<◌, List, [], ◌∷◌, length, slice_get, get_or, Option, Some, None, unwrap_or, refl, sym, ap, subst, ◌∙◌, arith}
+use Rattle.std.proofs.Common.{◌≡◌, ℕ, zero, suc, ◌<◌, List, [], ◌∷◌, length, slice_get, get_or, Option, Some, None, unwrap_or, ◌⊎◌, inl, inr, refl, sym, ap, subst, ◌∙◌, arith}
 use Rattle.std.proofs.lemmas.Option.{slice_get_within, slice_get-get_or, get_or_from_slice_get}
 use Rattle.cb_spec.specs.declared.event.Event.{Event}
 use Rattle.cb_spec.specs.ProcessTree.{ProcessTree, Stop, Prefix}
@@ -32,6 +32,21 @@ prefix_within ps k h = by (slice_get ps k) refl h
     by None e h = absurd h
     by (Some p) e h = slice_get_within ps k p e
 
+-- a place that offers is no other
+pub ready_apart : (p : Place) (ks : List ℕ) (env : Writes) → p ≡ Ready ks env → ((k : ℕ) × (old : Writes) × (p ≡ At k old)) ⊎ (p ≡ Ended) → ⊥
+ready_apart p ks env is (inl h) = let e : Ready ks env ≡ At h.0 h.1 = sym is ∙ h.2 in cc
+ready_apart p ks env is (inr h) = let e : Ready ks env ≡ Ended = sym is ∙ h in cc
+
+-- a node whose process is a prefix is one
+pub node_apart : (ps : List ProcessTree) (n : Node) → IsPrefix (tree_of ps n) → ((e : Event) (j : ℕ) → n ≡ node.Prefix e j → ⊥) → ⊥
+node_apart ps node.Stop h other = h
+node_apart ps node.Skip h other = h
+node_apart ps (node.Call k ts) h other = h
+node_apart ps (node.Prefix e j) h other = other e j refl
+node_apart ps (node.Choice j k) h other = h
+node_apart ps (node.Internal j k) h other = h
+node_apart ps (node.If f j k) h other = h
+
 module _ (ps : List ProcessTree) (places : List Place) (i b : ℕ) (all : AreOffered ps places) (has : HasBranch places i b) where
   -- the place that was read offers the prefixes
   pub ready_is : (p : Place) → p ≡ get_or places i p → p ≡ Ready has.prefixes has.env
@@ -43,8 +58,8 @@ module _ (ps : List ProcessTree) (places : List Place) (i b : ℕ) (all : AreOff
   pub branch_within : (p : Place) (ks : List ℕ) (env : Writes) → p ≡ get_or places i p → p ≡ Ready ks env → b < length ks
   branch_within p ks env is same = subst (λ l. b < length l) (sym (prefixes_are p ks env is same)) (slice_get_within has.prefixes b has.prefix has.listed)
 
-  pub prefix_is : (p : Place) (ks slice : List ℕ) (env : Writes) (k : ℕ) → p ≡ get_or places i p → p ≡ Ready ks env → slice ≡ ks → k ≡ get_or slice b k → k ≡ has.prefix
-  prefix_is p ks slice env k is same sliced at = at ∙ ap (λ l. get_or l b k) (sliced ∙ prefixes_are p ks env is same) ∙ get_or_from_slice_get has.prefixes b has.prefix k has.listed
+  pub prefix_is : (p : Place) (ks slice : List ℕ) (env : Writes) (d : ℕ) → p ≡ get_or places i p → p ≡ Ready ks env → slice ≡ ks → get_or slice b d ≡ has.prefix
+  prefix_is p ks slice env d is same sliced = ap (λ l. get_or l b d) (sliced ∙ prefixes_are p ks env is same) ∙ get_or_from_slice_get has.prefixes b has.prefix d has.listed
 
   pub is_prefix : (k : ℕ) → k ≡ has.prefix → IsPrefix (part ps k)
   is_prefix k e = subst (λ n. IsPrefix (part ps n)) (sym e) (prefix_at ps has.prefixes b has.prefix (all i has.prefixes has.env has.at) has.listed)

@@ -1,9 +1,10 @@
 -- A call that a controller offers: what performing it asks, and what comes of it.
-use Rattle.std.proofs.Common.{◌≡◌, ℕ, ◌<◌, List, length, get_or, map, Some, refl, sym, ap, subst, ◌∙◌}
+use Rattle.std.proofs.Common.{◌≡◌, ℕ, ◌<◌, List, length, get_or, map, Option, Some, ◌⊎◌, inl, inr, refl, sym, ap, subst, ◌∙◌}
 use Rattle.std.proofs.lemmas.Option.{slice_get-get_or}
 use Rattle.cb_term.specs.declared.name.Name.{Name}
 use Rattle.cb_term.specs.declared.value.Value.{Value}
-use Rattle.cb_term.specs.Tree.{TermTree}
+use Rattle.cb_term.specs.Tree.{TermTree, FormulaTree}
+use Rattle.cb_spec.specs.declared.event.Event.{Event}
 use Rattle.cb_spec.specs.declared.event.Event.TheVariants as event
 use Rattle.cb_spec.specs.declared.system.Machine.{Machine}
 use Rattle.cb_spec.specs.declared.system.Operation.{Operation}
@@ -16,6 +17,7 @@ use Rattle.cb_spec.specs.States.{IsAt}
 use Rattle.cb_spec.specs.Settling.{AreValues}
 use Rattle.cb_spec.specs.Journals.{set_sizes}
 use Rattle.cb_relation.specs.Performing.{CanRun}
+use Rattle.cb_safety_laws.specs.Causes.{IsCall}
 use Rattle.cb_safety_laws.proofs.Lists.{two_at, at_below}
 use Rattle.cb_code.specs.declared.place.Place.{Place}
 use Rattle.cb_settling.specs.declared.call.Called.{Called}
@@ -28,6 +30,15 @@ use Rattle.cb_system.specs.declared.perform.Performed.{Performed}
 use Rattle.cb_system.specs.Branches.{IsBranch}
 use Rattle.cb_system.specs.Firing.{CanPerform, IsPerformed}
 use Rattle.cb_system.proofs.FireLemmas.{call_args, call_can, targets_many}
+
+-- the event that was read is the call
+pub call_branch : (ps : List ProcessTree) (places : List Place) (i b : ℕ) (e : Event) (k j : ℕ) (ts : List TermTree) (xs : List Name) (next : ℕ) (env : Writes) → e ≡ event.Call k j ts xs → IsBranch ps places i b e next env →
+    IsBranch ps places i b (event.Call k j ts xs) next env
+call_branch ps places i b e k j ts xs next env is r = subst (λ z. IsBranch ps places i b z next env) is r
+
+pub call_apart : (e : Event) → IsCall e → ((k : ℕ) × (ts : List TermTree) × (said : Option FormulaTree) × (e ≡ event.Output k ts said)) ⊎ ((k : ℕ) × (xs : List Name) × (said : Option FormulaTree) × (e ≡ event.Input k xs said)) → ⊥
+call_apart e h (inl r) = subst IsCall r.3 h
+call_apart e h (inr r) = subst IsCall r.3 h
 
 module _ (y : System) (ps : List ProcessTree) (store : Writes) (places : List Place) (i b : ℕ) (can : CanPerform y ps store places i b) (k j : ℕ) (ts : List TermTree) (xs : List Name) (next : ℕ) (env : Writes)
     (branch : IsBranch ps places i b (event.Call k j ts xs) next env) where

@@ -111,8 +111,7 @@ module _ (y : System) (ps : List ProcessTree) (store : Writes) (places : List Pl
       let into = input_there k p.1.0 n p.1.1 in
       let s = sender_is k p.0.0 m out in
       let r = receiver_is k p.1.0 n into in
-      let same : r.0 ≡ s.0 = two_at y.channels k r.0 s.0 r.1 s.1 in
-      (
+      let same : r.0 ≡ s.0 = two_at y.channels k r.0 s.0 r.1 s.1 in (
         s.0,
         record {
           its = s.1;
@@ -169,7 +168,7 @@ module _ (y : System) (ps : List ProcessTree) (store : Writes) (places : List Pl
   fires_stirs : (i b : ℕ) (s : Side) → IsOffered rows i b s → Fires rows s → ¬ IsStill y state
   fires_stirs i b (side.Output k) at fires = meets_stir k (meeting rows k) refl fires
   fires_stirs i b (side.Input k) at fires = meets_stir k (meeting rows k) refl fires
-  fires_stirs i b side.Call at fires still = offers_can_act.stirs y state i (offers_can_act.calls y good.good.typed good.good.sound state good.good.fit i b (call_there i b at)) still
+  fires_stirs i b side.Call at fires = offers_can_act.stirs y state i (offers_can_act.calls y good.good.typed good.good.sound state good.good.fit i b (call_there i b at))
 
   pub stirs_there : (¬ AreIdle rows) → ¬ IsStill y state
   stirs_there busy still = busy (λ i b s at fires. fires_stirs i b s at fires still)

@@ -24,6 +24,16 @@ use Rattle.cb_system.specs.Firing.{CanPass, IsPassed}
 use Rattle.cb_system.proofs.BranchLemmas.{offers_place, event_is}
 use Rattle.cb_system.proofs.FireLemmas.{values_many, output_args, sends_so, receives_so}
 
+pub output_is : (k : ℕ) (e : Event) → IsOutput k e → ((n : ℕ) (ts : List TermTree) (said : Option FormulaTree) → e ≡ event.Output n ts said → ⊥) → ⊥
+output_is k (event.Output n ts said) h other = other n ts said refl
+output_is k (event.Input n xs said) h other = h
+output_is k (event.Call m j ts xs) h other = h
+
+pub input_is : (k : ℕ) (e : Event) → IsInput k e → ((n : ℕ) (xs : List Name) (said : Option FormulaTree) → e ≡ event.Input n xs said → ⊥) → ⊥
+input_is k (event.Output n ts said) h other = h
+input_is k (event.Input n xs said) h other = other n xs said refl
+input_is k (event.Call m j ts xs) h other = h
+
 module _ (y : System) (ps : List ProcessTree) (places : List Place) (k sent rec : ℕ) (can : CanPass y ps places k sent rec) where
   pub channel_within : k < length y.channels
   channel_within = at_below y.channels k can.channel can.meet.its

@@ -1,6 +1,6 @@
 -- What the rendezvous table's rows tell of the state.
 use Rattle.std.proofs.Common.{◌≡◌, ℕ, zero, suc, ◌<◌, ◌≢◌, Bool, true, false, eqb, List, [], ◌∷◌, map, length, slice_get, Option, Some, None, unwrap_or, if◌then◌else◌, refl, sym, ap, subst, ◌∙◌, ◌⊎◌, inl, inr, arith}
-use Rattle.std.proofs.lemmas.Bool.{eqb-true}
+use Rattle.std.proofs.lemmas.Bool.{eqb-true, eq-eqb}
 use Rattle.cb_spec.specs.declared.event.Event.{Event}
 use Rattle.cb_spec.specs.declared.event.Event.TheVariants as event
 use Rattle.cb_spec.specs.declared.system.Channel.{Channel}
@@ -36,52 +36,52 @@ IsFound test row n = (s : Side) × (slice_get row n ≡ Some s) × (test s ≡ t
 
 in_row : (test : Side → Bool) (row : List Side) (n : ℕ) → first_in test row ≡ Some n → IsFound test row n
 in_row test [] n e = absurd (cc)
-in_row test (s ∷ row) n e = by (test s) refl (first_in test row) refl e
+in_row test (s ∷ row) n e = by (test s) refl (first_in test row) refl (in_row test row) e
   where
-    by : (b : Bool) → test s ≡ b → (o : Option ℕ) → first_in test row ≡ o → (if b then Some 0 else next o) ≡ Some n → IsFound test (s ∷ row) n
-    by true t o f e = let z : zero ≡ n = ap (λ o. unwrap_or o n) e in subst (IsFound test (s ∷ row)) z (s, refl, t)
-    by false t None f e = absurd (cc)
-    by false t (Some m) f e = let z : suc m ≡ n = ap (λ o. unwrap_or o n) e in let r = in_row test row m f in subst (IsFound test (s ∷ row)) z (r.0, r.1, r.2)
+    by : (b : Bool) → test s ≡ b → (o : Option ℕ) → first_in test row ≡ o → ((m : ℕ) → first_in test row ≡ Some m → IsFound test row m) → (if b then Some 0 else next o) ≡ Some n → IsFound test (s ∷ row) n
+    by true t o f rest e = let z : zero ≡ n = ap (λ o. unwrap_or o n) e in subst (IsFound test (s ∷ row)) z (s, refl, t)
+    by false t None f rest e = absurd (cc)
+    by false t (Some m) f rest e = let z : suc m ≡ n = ap (λ o. unwrap_or o n) e in let r = rest m f in subst (IsFound test (s ∷ row)) z (r.0, r.1, r.2)
 
 none_in : (test : Side → Bool) (row : List Side) (n : ℕ) (s : Side) → first_in test row ≡ None → slice_get row n ≡ Some s → test s ≡ true → ⊥
 none_in test [] n s e at t = absurd (cc)
-none_in test (x ∷ row) n s e at t = by (test x) refl (first_in test row) refl e n at
+none_in test (x ∷ row) n s e at t = by (test x) refl (first_in test row) refl (λ m f there. none_in test row m s f there t) e n at
   where
-    by : (b : Bool) → test x ≡ b → (o : Option ℕ) → first_in test row ≡ o → (if b then Some 0 else next o) ≡ None → (n : ℕ) → slice_get (x ∷ row) n ≡ Some s → ⊥
-    by true u o f e n at = absurd (cc)
-    by false u (Some m) f e n at = absurd (cc)
-    by false u None f e zero at = let same : x ≡ s = ap (λ o. unwrap_or o x) at in let v : test x ≡ true = ap test same ∙ t in absurd (cc)
-    by false u None f e (suc n) at = none_in test row n s f at t
+    by : (b : Bool) → test x ≡ b → (o : Option ℕ) → first_in test row ≡ o → ((m : ℕ) → first_in test row ≡ None → slice_get row m ≡ Some s → ⊥) → (if b then Some 0 else next o) ≡ None → (n : ℕ) → slice_get (x ∷ row) n ≡ Some s → ⊥
+    by true u o f rest e n at = absurd (cc)
+    by false u (Some m) f rest e n at = absurd (cc)
+    by false u None f rest e zero at = let same : x ≡ s = ap (λ o. unwrap_or o x) at in let v : test x ≡ true = ap test same ∙ t in absurd (cc)
+    by false u None f rest e (suc n) at = rest n f at
 
-in_rows : (test : Side → Bool) (rows : List (List Side)) (n : ℕ) → first_of test rows ≡ Some n → (i : ℕ) × (s : Side) × IsOffered rows i n s × (test s ≡ true)
+-- a side of the rows passes
+abbrev IsFoundIn : (Side → Bool) → List (List Side) → ℕ → Type 0
+IsFoundIn test rows n = (i : ℕ) × (s : Side) × IsOffered rows i n s × (test s ≡ true)
+
+in_rows : (test : Side → Bool) (rows : List (List Side)) (n : ℕ) → first_of test rows ≡ Some n → IsFoundIn test rows n
 in_rows test [] n e = absurd (cc)
-in_rows test (row ∷ rows) n e = by (first_in test row) refl e
+in_rows test (row ∷ rows) n e = by (first_in test row) refl (in_rows test rows n) e
   where
-    by : (o : Option ℕ) → first_in test row ≡ o → or_else o (first_of test rows) ≡ Some n → (i : ℕ) × (s : Side) × IsOffered (row ∷ rows) i n s × (test s ≡ true)
-    by None f e = let r = in_rows test rows n e in (suc r.0, r.1, r.2, r.3)
-    by (Some m) f e = let r = in_row test row n (f ∙ e) in (0, r.0, r.1, r.2)
+    by : (o : Option ℕ) → first_in test row ≡ o → (first_of test rows ≡ Some n → IsFoundIn test rows n) → or_else o (first_of test rows) ≡ Some n → IsFoundIn test (row ∷ rows) n
+    by None f rest e = let r = rest e in (suc r.0, r.1, r.2, r.3)
+    by (Some m) f rest e = let r = in_row test row n (f ∙ e) in (0, r.0, r.1, r.2)
 
 none_of : (test : Side → Bool) (rows : List (List Side)) (i n : ℕ) (s : Side) → first_of test rows ≡ None → IsOffered rows i n s → test s ≡ true → ⊥
 none_of test [] i n s e at t = absurd (cc)
-none_of test (row ∷ rows) i n s e at t = by (first_in test row) refl e i at
+none_of test (row ∷ rows) i n s e at t = by (first_in test row) refl (λ j f there. none_of test rows j n s f there t) e i at
   where
-    by : (o : Option ℕ) → first_in test row ≡ o → or_else o (first_of test rows) ≡ None → (i : ℕ) → IsOffered (row ∷ rows) i n s → ⊥
-    by (Some m) f e i at = absurd (cc)
-    by None f e zero at = none_in test row n s f at t
-    by None f e (suc i) at = none_of test rows i n s e at t
+    by : (o : Option ℕ) → first_in test row ≡ o → ((j : ℕ) → first_of test rows ≡ None → IsOffered rows j n s → ⊥) → or_else o (first_of test rows) ≡ None → (i : ℕ) → IsOffered (row ∷ rows) i n s → ⊥
+    by (Some m) f rest e i at = absurd (cc)
+    by None f rest e zero at = none_in test row n s f at t
+    by None f rest e (suc i) at = rest i e at
 
 -- where both sides of a channel are offered, branches meet on it
 pub both_meet : (rows : List (List Side)) (k i m j n : ℕ) → IsOffered rows i m (side.Output k) → IsOffered rows j n (side.Input k) → meeting rows k ≢ None
 both_meet rows k i m j n out into e = by (first_of (sends k) rows) refl (first_of (receives k) rows) refl e
   where
     by : (o : Option ℕ) → first_of (sends k) rows ≡ o → (p : Option ℕ) → first_of (receives k) rows ≡ p → both o p ≡ None → ⊥
-    by None f p g e = none_of (sends k) rows i m (side.Output k) f out (same k)
-    by (Some a) f None g e = none_of (receives k) rows j n (side.Input k) g into (same k)
+    by None f p g e = none_of (sends k) rows i m (side.Output k) f out (eq-eqb k k refl)
+    by (Some a) f None g e = none_of (receives k) rows j n (side.Input k) g into (eq-eqb k k refl)
     by (Some a) f (Some b) g e = absurd (cc)
-
-    same : (k : ℕ) → eqb k k ≡ true
-    same zero = refl
-    same (suc k) = same k
 
 abbrev first_one : Option (ℕ × ℕ) → Option ℕ
 first_one None = None

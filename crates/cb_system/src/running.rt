@@ -152,7 +152,8 @@ impl Running {
         let at = controller as usize;
         let place = mem::replace(&mut self.places[at], Place::Ended);
         self.places[at] = next(place, outcome);
-        self.journal.push_reserved(Entry::Settle { controller, bits });
+        self.journal
+            .push_reserved(Entry::Settle { controller, bits });
         Ok(true)
     }
 
@@ -203,13 +204,7 @@ impl Running {
     }
 
     // Passes values from a branch of the channel's sender to one of its receiver.
-    fn pass_one(
-        &mut self,
-        alloc: Global,
-        channel: u32,
-        sent: u32,
-        got: u32,
-    ) -> Result<(), Memory>
+    fn pass_one(&mut self, alloc: Global, channel: u32, sent: u32, got: u32) -> Result<(), Memory>
         requires open { last_end self.old.journal ≡ None }
         requires more { events self.old.journal < self.old.limit }
         requires meet { (ch : Channel) × Meet self.old.system (state_of self.old.state) channel sent got ch }

@@ -33,3 +33,14 @@ next-requires g c =
     let i = c.self.inside in
     let settled = settled_fact i.sound c.spec.result.now i.code i.places.items c.as_slice.result.now c.args.controller _ c.in-Some.settled c.in_ok-settled.ensures c.in-Some.is c.spec.ensures.system c.as_slice.ensures.value in
     subst IsUnsettled (sym (taken_is i.places.items c.args.controller c.index_mut.result.now c.replace-place.result _ settled.1.1.1.1.0 c.index_mut.ensures.value c.replace-place.ensures.value)) tt
+
+pub invariant_of-self-2 : goal.invariant_of-self-2
+invariant_of-self-2 g c =
+    let i = c.self.inside in
+    let settled = settled_fact i.sound c.spec.result.now i.code i.places.items c.as_slice.result.now c.args.controller _ c.in-Some.settled c.in_ok-settled.ensures c.in-Some.is c.spec.ensures.system c.as_slice.ensures.value in
+    let e : Entry = entry.Settle c.args.controller c.in-Some.settled.1 in
+    step_settled i.sound i.limit i.initial i.journal.items i.code i.store i.places.items i.bodies.items i.count i.end _ _ i.unsettled i.living c.self.invariant c.args.controller c.in-Some.settled.0 c.in-Some.settled.1 settled _ _ _ _
+    c.push_reserved.new.self.items c.replace-place.new.dest c.replace-place.result c.next.result (ap (λ (r : RunView). last_end r.journal) c.self.view_is ∙ c.requires.open) (subst (λ (r : RunView). events r.journal < r.limit) (sym c.self.view_is) c.requires.more)
+    (c.push_reserved.ensures.items ∙ ap (λ (l : List Entry). l ++ e ∷ []) c.in_ok-reserve.ensures.items)
+    (taken_is i.places.items c.args.controller c.index_mut.result.now c.replace-place.result _ settled.1.1.1.1.0 c.index_mut.ensures.value c.replace-place.ensures.value)
+    c.next.ensures (let p = c.push_reserved.ensures in let r = c.in_ok-reserve.ensures in omega (arith, p.len, p.capacity, r.len, r.capacity, r.ok)) refl c.living_after-self-inside.ensures
