@@ -1,1 +1,4 @@
+pub mod Codes
+pub mod Kept
+pub mod Marks
 pub mod Tables

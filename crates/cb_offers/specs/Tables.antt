@@ -1,5 +1,5 @@
 -- What each controller offers, and which branches meet on a channel.
-use Rattle.std.specs.Prelude.{ℕ, suc, ◌<◌, ◌≡◌, ◌≢◌, eqb, Bool, true, false, Option, None, Some, List, [], ◌∷◌, slice_get, unwrap_or, ⊤, if◌then◌else◌}
+use Rattle.std.specs.Prelude.{ℕ, suc, ◌<◌, ◌≡◌, ◌≢◌, eqb, Bool, false, Option, None, Some, List, [], ◌∷◌, slice_get, unwrap_or, ⊤, if◌then◌else◌}
 use Rattle.cb_offers.specs.declared.offers.Side.{Side}
 use Rattle.cb_offers.specs.declared.offers.Side.TheVariants.{Output, Input, Call}
 
