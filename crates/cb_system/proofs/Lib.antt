@@ -9,3 +9,8 @@ pub mod PassLemmas
 pub mod FiredLemmas
 pub mod RowLemmas
 pub mod CauseLemmas
+pub mod DueLemmas
+pub mod ShownLemmas
+pub mod FoundLemmas
+pub mod TabledLemmas
+pub mod StepsLemmas

@@ -27,7 +27,7 @@ get_map f [] k x at = absurd (cc)
 get_map f (y ∷ xs) zero x at = ap (λ o. Some (f (unwrap_or o y))) at
 get_map f (y ∷ xs) (suc k) x at = get_map f xs k x at
 
-set_map : {A B : Type 0} (f : A → B) (xs : List A) (k : ℕ) (x : A) → map f (slice_set xs k x) ≡ slice_set (map f xs) k (f x)
+pub set_map : {A B : Type 0} (f : A → B) (xs : List A) (k : ℕ) (x : A) → map f (slice_set xs k x) ≡ slice_set (map f xs) k (f x)
 set_map f [] k x = refl
 set_map f (y ∷ xs) zero x = refl
 set_map f (y ∷ xs) (suc k) x = ap (λ ys. f y ∷ ys) (set_map f xs k x)

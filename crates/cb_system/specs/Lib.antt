@@ -5,3 +5,7 @@ pub mod Moves
 pub mod Branches
 pub mod Firing
 pub mod Rows
+pub mod Dues
+pub mod Tabled
+pub mod Steps
+pub mod Found

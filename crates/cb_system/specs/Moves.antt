@@ -44,3 +44,7 @@ after env Over = Ended
 abbrev pub SettledAt : System → List ProcessTree → List Place → ℕ → Outcome → ℕ → Type 0
 SettledAt y ps places i outcome bits =
     (c : Controller) × (IsNumbered y i c × ((k : ℕ) × ((env : Writes) × (IsAt places i (At k env) × IsSettled y c ps (part ps k) env outcome bits))))
+
+-- the controller is at no process
+abbrev pub IsElsewhere : List Place → ℕ → Type 0
+IsElsewhere places i = (k : ℕ) (env : Writes) → ¬ IsAt places i (At k env)

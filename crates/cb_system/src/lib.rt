@@ -2,7 +2,10 @@
 #![tactic(auto)]
 
 pub mod branch;
+pub mod due;
+pub mod firing;
 pub mod pass;
 pub mod perform;
+pub mod row;
 pub mod running;
 pub mod settled;

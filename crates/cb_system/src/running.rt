@@ -1,20 +1,26 @@
 //! A running system, whose journal is a run by its type.
 
-ghost use Rattle.std.specs.Prelude.{◌≡◌, ◌++◌, ◌∷◌, [], None, ◌<◌, length, IfOk, OnOk, OnErr, MatchBool};
+ghost use Rattle.std.specs.Prelude.{◌≡◌, ◌++◌, ◌∷◌, [], None, ◌<◌, length, IfNone, IfSome, IfOk, OnOk, OnErr, MatchBool};
 ghost use Rattle.cb_spec.specs.declared.system.Channel.{Channel};
 ghost use Rattle.cb_spec.specs.Journals.{events};
 ghost use Rattle.cb_spec.specs.States.{state_of};
 ghost use Rattle.cb_spec.specs.Sound.{Good};
-ghost use Rattle.cb_safety_laws.specs.Causes.{IsCall, Offers, Meet};
+ghost use Rattle.cb_safety_laws.specs.Causes.{Meet};
 ghost use Rattle.cb_beginning.specs.Placed.{state_in};
 ghost use Rattle.cb_system.specs.Views.{last_end, IsSame, HasSettle, HasOp, HasPass};
+ghost use Rattle.cb_system.specs.Steps.{IsUnresolved, IsGoing, IsOver, HasFired, HasNone, IsStepped};
+ghost use Rattle.cb_system.specs.Found.{HasCall, CanFire};
 
 use crate::branch::env_of;
+use crate::due::cause_of;
+use crate::firing::{Firing, firing_of};
 use crate::pass::passed_at;
 use crate::perform::performed_at;
+use crate::row::row_shown;
 use crate::settled::{living_after, next, settled_at};
 use cb_code::code::Code;
 use cb_code::place::Place;
+use cb_offers::offers::Offers;
 use cb_relation::pick::Pick;
 use cb_spec::sound::SoundSpec;
 use cb_spec::state::{End, Entry};
@@ -39,8 +45,22 @@ pub struct Running {
     store: Store,
     places: Vec<Place>,
     bodies: Vec<Items<u32>>,
+    offers: Offers,
     unsettled: u32,
     living: u32,
+}
+
+/// What a step has done.
+#[derive(Clone, Copy, Debug, PartialEq, Eq)]
+pub enum Stepped {
+    /// The controller's process is resolved.
+    Settled,
+    /// The controller has called an operation, or values have passed a channel of its own.
+    Fired,
+    /// The controller can do nothing until another does something.
+    Idle,
+    /// The journal has ended.
+    Over(End),
 }
 
 impl Model for Running {
@@ -50,6 +70,7 @@ impl Model for Running {
     ghost use Rattle.cb_system.specs.Views.{RunView};
     ghost use Rattle.cb_system.specs.RunCodes.{run_code};
     ghost use Rattle.cb_system.specs.Kept.{Keeps, AreCounted};
+    ghost use Rattle.cb_system.specs.Tabled.{IsTabled};
 
     ghost Value = { RunView };
 
@@ -57,7 +78,7 @@ impl Model for Running {
 
     ghost view = { λ r. record { system = r.sound; limit = r.limit; initial = r.initial; journal = r.journal.items; state = state_in r.code r.store r.places.items } };
 
-    ghost invariant = { λ r. Keeps r.sound r.limit r.initial r.journal.items (state_in r.code r.store r.places.items) r.count r.end (vec_len r.journal) (vec_capacity r.journal) × Laid r.sound r.code r.places.items r.bodies.items × IsRoomy r.sound r.store × AreCounted r.places.items r.unsettled r.living };
+    ghost invariant = { λ r. (Keeps r.sound r.limit r.initial r.journal.items (state_in r.code r.store r.places.items) r.count r.end (vec_len r.journal) (vec_capacity r.journal) × Laid r.sound r.code r.places.items r.bodies.items × IsRoomy r.sound r.store × AreCounted r.places.items r.unsettled r.living) × IsTabled r.sound r.code r.places.items r.offers };
 }
 
 impl Running {
@@ -117,6 +138,53 @@ impl Running {
         self.end = Some(End::Memory);
     }
 
+    /// Ends the journal where a cause other than want of memory is due, and tells the cause for which it has ended. It takes no
+    /// memory.
+    pub fn end_if_due(&mut self) -> Option<End>
+        ensures system { self.new.system ≡ self.old.system }
+        ensures limit { self.new.limit ≡ self.old.limit }
+        ensures initial { self.new.initial ≡ self.old.initial }
+        ensures none { IfNone result (IsGoing self.old × (self.new ≡ self.old)) }
+        ensures some { IfSome result (IsOver self.old self.new) }
+    {
+        if let Some(end) = self.end {
+            return Some(end);
+        }
+        let due = cause_of(self.living, self.unsettled, self.count, self.limit, &self.offers)?;
+        self.journal.push_reserved(Entry::End(due));
+        self.end = Some(due);
+        Some(due)
+    }
+
+    /// One step of the controller with this number, where the picker takes the choices that are left. These are tried in order:
+    /// the journal has ended, or a cause other than want of memory is due, which ends it; the controller's process is resolved;
+    /// it calls an operation, or values pass a channel of its own; else nothing happens. `Err`: want of memory, after which all
+    /// is as before.
+    pub fn step<P: Pick>(
+        &mut self,
+        alloc: Global,
+        controller: u32,
+        pick: &mut P,
+    ) -> Result<Stepped, Memory>
+        requires { controller < length self.old.system.order }
+        ensures system { self.new.system ≡ self.old.system }
+        ensures limit { self.new.limit ≡ self.old.limit }
+        ensures initial { self.new.initial ≡ self.old.initial }
+        ensures ok { IfOk result (IsStepped controller self.old self.new) }
+        ensures err { OnErr result (IsSame self.old self.new) }
+    {
+        if let Some(end) = self.end_if_due() {
+            return Ok(Stepped::Over(end));
+        }
+        if self.settle_one(alloc, controller, pick)? {
+            return Ok(Stepped::Settled);
+        }
+        if self.fire_one(alloc, controller, pick)? {
+            return Ok(Stepped::Fired);
+        }
+        Ok(Stepped::Idle)
+    }
+
     // Resolves the process of the controller with this number, if it is at one.
     fn settle_one<P: Pick>(
         &mut self,
@@ -130,7 +198,7 @@ impl Running {
         ensures system { self.new.system ≡ self.old.system }
         ensures limit { self.new.limit ≡ self.old.limit }
         ensures initial { self.new.initial ≡ self.old.initial }
-        ensures journal { IfOk result (λ b. MatchBool b (HasSettle controller self.old.journal self.new.journal) (self.new ≡ self.old)) }
+        ensures journal { IfOk result (λ b. MatchBool b (IsUnresolved (state_of self.old.state) controller × HasSettle controller self.old.journal self.new.journal) ((¬ IsUnresolved (state_of self.old.state) controller) × (self.new ≡ self.old))) }
         ensures err { OnErr result (self.new ≡ self.old) }
     {
         self.journal.reserve(2)?;
@@ -147,14 +215,53 @@ impl Running {
             return Ok(false);
         };
         let (outcome, bits) = settled;
+        let row = row_shown(alloc, &self.code, &outcome)?;
+        self.offers.set(controller, row.as_slice())?;
         self.unsettled -= 1;
         self.living = living_after(self.living, &outcome);
         let at = controller as usize;
         let place = mem::replace(&mut self.places[at], Place::Ended);
         self.places[at] = next(place, outcome);
-        self.journal
-            .push_reserved(Entry::Settle { controller, bits });
+        self.journal.push_reserved(Entry::Settle { controller, bits });
         Ok(true)
+    }
+
+    // Lets a branch of the controller fire, if one can.
+    fn fire_one<P: Pick>(
+        &mut self,
+        alloc: Global,
+        controller: u32,
+        pick: &mut P,
+    ) -> Result<bool, Memory>
+        requires open { last_end self.old.journal ≡ None }
+        requires more { events self.old.journal < self.old.limit }
+        requires range { controller < length self.old.system.order }
+        ensures system { self.new.system ≡ self.old.system }
+        ensures limit { self.new.limit ≡ self.old.limit }
+        ensures initial { self.new.initial ≡ self.old.initial }
+        ensures journal { IfOk result (λ b. MatchBool b (HasFired controller self.old self.new) (HasNone controller self.old × IsSame self.old self.new)) }
+        ensures err { OnErr result (IsSame self.old self.new) }
+    {
+        let firing = self.firing(controller, pick);
+        match firing {
+            Firing::Nothing => Ok(false),
+            Firing::Calls { branch } => {
+                self.perform_one(alloc, controller, branch, pick)?;
+                Ok(true)
+            }
+            Firing::Passes { channel, sent, got } => {
+                self.pass_one(alloc, channel, sent, got)?;
+                Ok(true)
+            }
+        }
+    }
+
+    // What the controller can do.
+    fn firing<P: Pick>(&self, controller: u32, pick: &mut P) -> Firing
+        requires { controller < length self.now.system.order }
+        ensures { CanFire controller self.now result }
+    {
+        firing_of(&self.code, self.places.as_slice(), &self.offers, controller, pick)
     }
 
     // Performs the operation that a branch of the controller calls.
@@ -167,7 +274,7 @@ impl Running {
     ) -> Result<(), Memory>
         requires open { last_end self.old.journal ≡ None }
         requires more { events self.old.journal < self.old.limit }
-        requires call { Offers IsCall (state_of self.old.state) controller branch }
+        requires call { HasCall self.old controller branch }
         ensures system { self.new.system ≡ self.old.system }
         ensures limit { self.new.limit ≡ self.old.limit }
         ensures initial { self.new.initial ≡ self.old.initial }
@@ -187,6 +294,7 @@ impl Running {
         )?;
         self.count += 1;
         self.unsettled += 1;
+        self.offers.clear(controller);
         self.places[controller as usize] = Place::At {
             process: performed.next,
             env: performed.env,
@@ -204,7 +312,13 @@ impl Running {
     }
 
     // Passes values from a branch of the channel's sender to one of its receiver.
-    fn pass_one(&mut self, alloc: Global, channel: u32, sent: u32, got: u32) -> Result<(), Memory>
+    fn pass_one(
+        &mut self,
+        alloc: Global,
+        channel: u32,
+        sent: u32,
+        got: u32,
+    ) -> Result<(), Memory>
         requires open { last_end self.old.journal ≡ None }
         requires more { events self.old.journal < self.old.limit }
         requires meet { (ch : Channel) × Meet self.old.system (state_of self.old.state) channel sent got ch }
@@ -226,6 +340,8 @@ impl Running {
         )?;
         self.count += 1;
         self.unsettled += 2;
+        self.offers.clear(passed.sender);
+        self.offers.clear(passed.receiver);
         let from = passed.sender as usize;
         let place = mem::replace(&mut self.places[from], Place::Ended);
         self.places[from] = Place::At {

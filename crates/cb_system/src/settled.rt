@@ -1,10 +1,10 @@
 //! A controller's process is resolved.
 
-ghost use Rattle.std.specs.Prelude.{◌≡◌, ◌<◌, ◌+◌, length, IfOk, IfSome};
+ghost use Rattle.std.specs.Prelude.{◌≡◌, ◌<◌, ◌+◌, length, IfOk, IfSome, IfNone};
 ghost use Rattle.cb_spec.specs.Stores.{Writes};
 ghost use Rattle.cb_beginning.specs.Placed.{Laid};
 ghost use Rattle.cb_system.specs.Kept.{lives};
-ghost use Rattle.cb_system.specs.Moves.{AreGood, env_at, after, IsUnsettled, SettledAt};
+ghost use Rattle.cb_system.specs.Moves.{AreGood, env_at, after, IsUnsettled, SettledAt, IsElsewhere};
 
 use cb_code::code::Code;
 use cb_code::place::Place;
@@ -28,7 +28,8 @@ pub fn settled_at<P: Pick>(
     requires range { number < length system.now.order }
     requires laid { Laid system.now code.now places.now bodies.now }
     requires good { (store : Writes) × AreGood system.now code.now store places.now }
-    ensures { IfOk result (λ o. IfSome o (λ r. SettledAt system.now code.now places.now number r.0 r.1)) }
+    ensures some { IfOk result (λ o. IfSome o (λ r. SettledAt system.now code.now places.now number r.0 r.1)) }
+    ensures none { IfOk result (λ o. IfNone o (IsElsewhere places.now number)) }
 {
     let at = number as usize;
     let controller = &system.controllers.as_slice()[system.order.as_slice()[at] as usize];

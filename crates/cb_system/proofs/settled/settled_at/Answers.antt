@@ -28,8 +28,8 @@ settle-requires-clause-can g c =
     can_resolve c.args.system.now h.limit h.beginning h.journal (state_of (state_in c.args.code.now c.requires.good.0 c.args.places.now)) h.good c.args.number c.index-as_slice-as_slice.result num (part c.args.code.now c.in-At.process) (look_of c.in-At.env)
     (control_at c.args.code.now c.requires.good.0 c.args.places.now c.args.number (At c.in-At.process c.in-At.env) at)
 
-pub returns-in_ok-settled-in-At : goal.returns-in_ok-settled-in-At
-returns-in_ok-settled-in-At g c =
+pub returns-in_ok-settled-in-At-clause-some : goal.returns-in_ok-settled-in-At-clause-some
+returns-in_ok-settled-in-At-clause-some g c =
     let num = numbered_at c.args.system.now c.args.number _ c.as_slice-2.result.now c.as_slice.result.now c.index-as_slice-as_slice.result c.requires.good.1.good.typed c.requires.range c.as_slice-2.ensures c.as_slice.ensures c.index-as_slice-as_slice.is in
     let low : c.args.number < length c.args.places.now = (let m = c.requires.laid.many in omega (arith, m, c.requires.range)) in
     let at = place_at c.args.places.now c.args.number c.index-places-at.result (At c.in-At.process c.in-At.env) low c.index-places-at.is c.in-At.is in

@@ -22,8 +22,8 @@ passed_at-requires c =
     let meet = subst (λ (r : RunView). (ch : Channel) × Meet r.system (state_of r.state) c.args.channel c.args.sent c.args.got ch) (sym c.self.view_is) c.requires.meet in
     let can : CanPass i.sound i.code i.places.items c.args.channel c.args.sent c.args.got = record {
       store = i.store;
-      good = record { limit = i.limit; beginning = i.initial; journal = i.journal.items; good = c.self.invariant.0.good };
-      prefixes = c.self.invariant.1.offered;
+      good = record { limit = i.limit; beginning = i.initial; journal = i.journal.items; good = c.self.invariant.0.0.good };
+      prefixes = c.self.invariant.0.1.offered;
       channel = meet.0;
       meet = meet.1;
     } in
@@ -34,42 +34,35 @@ pub overflow_add-self-2 : goal.overflow_add-self-2
 overflow_add-self-2 c =
     let i = c.self.inside in
     let passed = passed_fact i.sound c.spec.result.now i.code i.places.items c.as_slice.result.now c.args.channel c.args.sent c.args.got c.in_ok-passed.passed c.in_ok-passed.ensures c.spec.ensures.system c.as_slice.ensures.value in
-    let few = passed_few i.sound i.limit i.initial i.journal.items i.code i.store i.places.items i.bodies.items i.count i.end _ _ i.unsettled i.living c.self.invariant c.args.channel c.args.sent c.args.got c.in_ok-passed.passed passed in
+    let few = passed_few i.sound i.limit i.initial i.journal.items i.code i.store i.places.items i.bodies.items i.count i.end _ _ i.unsettled i.living c.self.invariant.0 c.args.channel c.args.sent c.args.got c.in_ok-passed.passed passed in
     omega (arith, few)
 
 pub index_mut-requires : goal.index_mut-requires
 index_mut-requires c =
     let i = c.self.inside in
     let passed = passed_fact i.sound c.spec.result.now i.code i.places.items c.as_slice.result.now c.args.channel c.args.sent c.args.got c.in_ok-passed.passed c.in_ok-passed.ensures c.spec.ensures.system c.as_slice.ensures.value in
-    let low : c.in_ok-passed.passed.sender < length i.places.items = sender_within i.sound i.limit i.initial i.journal.items i.code i.store i.places.items i.bodies.items i.count i.end _ _ i.unsettled i.living c.self.invariant c.args.channel c.args.sent c.args.got c.in_ok-passed.passed passed in
+    let low : c.in_ok-passed.passed.sender < length i.places.items = sender_within i.sound i.limit i.initial i.journal.items i.code i.store i.places.items i.bodies.items i.count i.end _ _ i.unsettled i.living c.self.invariant.0 c.args.channel c.args.sent c.args.got c.in_ok-passed.passed passed in
     grind (arith, common_steps)
 
 pub env_of-requires : goal.env_of-requires
 env_of-requires c =
     let i = c.self.inside in
     let passed = passed_fact i.sound c.spec.result.now i.code i.places.items c.as_slice.result.now c.args.channel c.args.sent c.args.got c.in_ok-passed.passed c.in_ok-passed.ensures c.spec.ensures.system c.as_slice.ensures.value in
-    subst IsReady (sym (taken_is i.places.items c.in_ok-passed.passed.sender c.index_mut.result.now c.replace-place.result _ (sender_at i.sound i.limit i.initial i.journal.items i.code i.store i.places.items i.bodies.items i.count i.end _ _ i.unsettled i.living c.self.invariant c.args.channel c.args.sent c.args.got c.in_ok-passed.passed passed) c.index_mut.ensures.value c.replace-place.ensures.value)) tt
+    subst IsReady (sym (taken_is i.places.items c.in_ok-passed.passed.sender c.index_mut.result.now c.replace-place.result _ (sender_at i.sound i.limit i.initial i.journal.items i.code i.store i.places.items i.bodies.items i.count i.end _ _ i.unsettled i.living c.self.invariant.0 c.args.channel c.args.sent c.args.got c.in_ok-passed.passed passed) c.index_mut.ensures.value c.replace-place.ensures.value)) tt
 
 pub index_mut-requires-2 : goal.index_mut-requires-2
 index_mut-requires-2 c =
     let i = c.self.inside in
     let passed = passed_fact i.sound c.spec.result.now i.code i.places.items c.as_slice.result.now c.args.channel c.args.sent c.args.got c.in_ok-passed.passed c.in_ok-passed.ensures c.spec.ensures.system c.as_slice.ensures.value in
-    let low : c.in_ok-passed.passed.sender < length i.places.items = sender_within i.sound i.limit i.initial i.journal.items i.code i.store i.places.items i.bodies.items i.count i.end _ _ i.unsettled i.living c.self.invariant c.args.channel c.args.sent c.args.got c.in_ok-passed.passed passed in
+    let low : c.in_ok-passed.passed.sender < length i.places.items = sender_within i.sound i.limit i.initial i.journal.items i.code i.store i.places.items i.bodies.items i.count i.end _ _ i.unsettled i.living c.self.invariant.0 c.args.channel c.args.sent c.args.got c.in_ok-passed.passed passed in
     grind (arith, common_steps)
 
 pub index_mut-requires-3 : goal.index_mut-requires-3
 index_mut-requires-3 c =
     let i = c.self.inside in
     let passed = passed_fact i.sound c.spec.result.now i.code i.places.items c.as_slice.result.now c.args.channel c.args.sent c.args.got c.in_ok-passed.passed c.in_ok-passed.ensures c.spec.ensures.system c.as_slice.ensures.value in
-    let low : c.in_ok-passed.passed.receiver < length i.places.items = receiver_within i.sound i.limit i.initial i.journal.items i.code i.store i.places.items i.bodies.items i.count i.end _ _ i.unsettled i.living c.self.invariant c.args.channel c.args.sent c.args.got c.in_ok-passed.passed passed in
+    let low : c.in_ok-passed.passed.receiver < length i.places.items = receiver_within i.sound i.limit i.initial i.journal.items i.code i.store i.places.items i.bodies.items i.count i.end _ _ i.unsettled i.living c.self.invariant.0 c.args.channel c.args.sent c.args.got c.in_ok-passed.passed passed in
     grind (arith, common_steps)
 
 pub invariant_of-self-2 : goal.invariant_of-self-2
-invariant_of-self-2 c =
-    let i = c.self.inside in
-    let passed = passed_fact i.sound c.spec.result.now i.code i.places.items c.as_slice.result.now c.args.channel c.args.sent c.args.got c.in_ok-passed.passed c.in_ok-passed.ensures c.spec.ensures.system c.as_slice.ensures.value in
-    let r = c.in_ok-passed.passed in
-    let e : Entry = entry.Pass c.args.channel c.args.sent c.args.got r.values in
-    step_passed_over i.sound i.limit i.initial i.journal.items i.code i.store i.places.items i.bodies.items i.count i.end _ _ i.unsettled i.living c.self.invariant c.args.channel c.args.sent c.args.got c.in_ok-passed.passed passed _ _ _ _ c.push_reserved.new.self.items c.env_of.result c.replace-place.new.dest (ap (λ (r : RunView). last_end r.journal) c.self.view_is ∙ c.requires.open) (subst (λ (r : RunView). events r.journal < r.limit) (sym c.self.view_is) c.requires.more)
-    (c.push_reserved.ensures.items ∙ ap (λ (l : List Entry). l ++ e ∷ []) c.in_ok-reserve.ensures.items)
-    (c.env_of.ensures ∙ ap env_at (taken_is i.places.items r.sender c.index_mut.result.now c.replace-place.result _ (sender_at i.sound i.limit i.initial i.journal.items i.code i.store i.places.items i.bodies.items i.count i.end _ _ i.unsettled i.living c.self.invariant c.args.channel c.args.sent c.args.got c.in_ok-passed.passed passed) c.index_mut.ensures.value c.replace-place.ensures.value)) (let p = c.push_reserved.ensures in let r = c.in_ok-reserve.ensures in omega (arith, p.len, p.capacity, r.len, r.capacity, r.ok)) refl refl
+invariant_of-self-2 c = ?

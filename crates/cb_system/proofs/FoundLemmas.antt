@@ -1,0 +1,71 @@
+-- What is found in the rendezvous table is what a controller can do.
+use Rattle.std.proofs.Common.{◌≡◌, ℕ, ◌<◌, ◌≢◌, List, slice_get, Option, Some, None, refl, sym, ap, subst, ◌∙◌, ◌⊎◌, inl, inr}
+use Rattle.cb_spec.specs.declared.event.Event.{Event}
+use Rattle.cb_spec.specs.declared.event.Event.TheVariants as event
+use Rattle.cb_spec.specs.declared.state.Entry.{Entry}
+use Rattle.cb_spec.specs.declared.system.Channel.{Channel}
+use Rattle.cb_spec.specs.declared.system.System.{System}
+use Rattle.cb_spec.specs.ProcessTree.{ProcessTree}
+use Rattle.cb_spec.specs.Stores.{Writes}
+use Rattle.cb_spec.specs.States.{IsAt, StateView, state_of}
+use Rattle.cb_spec.specs.Journals.{Leads}
+use Rattle.cb_safety_laws.specs.Causes.{IsCall, Offers, Meet, TakesPart}
+use Rattle.cb_safety_laws.proofs.Lists.{two_at, at_below}
+use Rattle.cb_code.specs.declared.place.Place.{Place}
+use Rattle.cb_code.specs.Nodes.{part}
+use Rattle.cb_offers.specs.declared.offers.Side.{Side}
+use Rattle.cb_offers.specs.declared.offers.Side.TheVariants as side
+use Rattle.cb_offers.specs.Tables.{meeting, Fires, IsOffered, IsIdle, IsFiring}
+use Rattle.cb_beginning.specs.Placed.{state_in}
+use Rattle.cb_system.specs.declared.firing.Firing.{Firing}
+use Rattle.cb_system.specs.declared.firing.Firing.TheVariants.{Nothing, Calls, Passes}
+use Rattle.cb_system.specs.Branches.{AreOffered, HasBranch, IsBranch}
+use Rattle.cb_system.specs.Moves.{AreGood}
+use Rattle.cb_system.specs.Rows.{side_of, rows_at}
+use Rattle.cb_system.specs.Tabled.{IsFound}
+use Rattle.cb_system.proofs.BranchLemmas.{offers_place}
+use Rattle.cb_system.proofs.RowLemmas.{branch_of_side, side_of_branch}
+use Rattle.cb_system.proofs.CauseLemmas.{idle_there, call_there, meet_there, output_there, input_there, sender_is, receiver_is, sender_takes_part, receiver_takes_part}
+
+-- what code finds
+module _ (ps : List ProcessTree) (places : List Place) (all : AreOffered ps places) (i b : ℕ) (fires : IsFiring (rows_at ps places) i (Some b)) where
+  pub branch_has : HasBranch places i b
+  branch_has =
+      let r = branch_of_side ps places all i b fires.0 fires.1.0 in
+      record { prefixes = r.3.prefixes; env = r.2; prefix = r.3.prefix; at = r.3.at; listed = r.3.listed }
+
+  module _ (e : Event) (next : ℕ) (env : Writes) (branch : IsBranch ps places i b e next env) where
+    pub event_offered : IsOffered (rows_at ps places) i b (side_of e)
+    event_offered = side_of_branch ps places all i b e (part ps next) env branch.shown
+
+    pub event_fires : Fires (rows_at ps places) (side_of e)
+    event_fires = subst (Fires (rows_at ps places)) (let same : Some fires.0 ≡ Some (side_of e) = sym fires.1.0 ∙ event_offered in cc) fires.1.1
+
+module _ (y : System) (ps : List ProcessTree) (store : Writes) (places : List Place) (good : AreGood y ps store places) (all : AreOffered ps places) where
+  abbrev state : StateView
+  state = state_of (state_in ps store places)
+
+  pub output_below : (k i b : ℕ) → IsOffered (rows_at ps places) i b (side.Output k) → (ch : Channel) × IsAt y.channels k ch
+  output_below k i b at = let c = sender_is y ps store places good all k i b (output_there y ps store places good all k i b at) in (c.0, c.1)
+
+  pub input_below : (k i b : ℕ) → IsOffered (rows_at ps places) i b (side.Input k) → (ch : Channel) × IsAt y.channels k ch
+  input_below k i b at = let c = receiver_is y ps store places good all k i b (input_there y ps store places good all k i b at) in (c.0, c.1)
+
+  meeting_found : (i k m n b : ℕ) → meeting (rows_at ps places) k ≡ Some (m, n) → IsOffered (rows_at ps places) i b (side.Output k) ⊎ IsOffered (rows_at ps places) i b (side.Input k) →
+      (ch : Channel) × (Meet y state k m n ch × ((ch.sender ≡ i) ⊎ (ch.receiver ≡ i)))
+  meeting_found i k m n b e at = let c = meet_there y ps store places good all k m n e in let p = part_of at in (c.0, (c.1, subst (λ (ch : Channel). (ch.sender ≡ i) ⊎ (ch.receiver ≡ i)) (two_at y.channels k p.0 c.0 p.1.0 c.1.its) p.1.1))
+    where
+      part_of : IsOffered (rows_at ps places) i b (side.Output k) ⊎ IsOffered (rows_at ps places) i b (side.Input k) → (ch : Channel) × (IsAt y.channels k ch × ((ch.sender ≡ i) ⊎ (ch.receiver ≡ i)))
+      part_of (inl at) = sender_takes_part y ps store places good all k i b at
+      part_of (inr at) = receiver_takes_part y ps store places good all k i b at
+
+  -- so it is in the state
+  abbrev IsThere : ℕ → Firing → Type 0
+  IsThere i Nothing = (e : Entry) (t : StateView) → TakesPart y i e → ¬ Leads y state e t
+  IsThere i (Calls b) = Offers IsCall state i b
+  IsThere i (Passes k m n) = (ch : Channel) × (Meet y state k m n ch × ((ch.sender ≡ i) ⊎ (ch.receiver ≡ i)))
+
+  pub found_there : (i : ℕ) (f : Firing) → IsFound (rows_at ps places) i f → IsThere i f
+  found_there i Nothing h = idle_there y ps store places good all i h
+  found_there i (Calls b) h = call_there y ps store places good all i b h
+  found_there i (Passes k m n) h = meeting_found i k m n h.1.0 h.0 h.1.1
