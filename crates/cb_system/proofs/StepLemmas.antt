@@ -4,15 +4,15 @@ use Rattle.std.specs.List.{sum_by}
 use Rattle.cb_spec.specs.declared.state.Entry.{Entry}
 use Rattle.cb_spec.specs.declared.state.Entry.TheVariants as entry
 use Rattle.cb_spec.specs.declared.state.End.{End}
-use Rattle.cb_spec.specs.declared.state.End.TheVariants.{Memory}
+use Rattle.cb_spec.specs.declared.state.End.TheVariants as cause
 use Rattle.cb_spec.specs.declared.system.Controller.{Controller}
 use Rattle.cb_spec.specs.declared.system.System.{System}
 use Rattle.cb_spec.specs.ProcessTree.{ProcessTree}
 use Rattle.cb_spec.specs.Stores.{Writes, look_of}
 use Rattle.cb_spec.specs.States.{IsAt, ControlView, StateView, control_of, state_of}
-use Rattle.cb_spec.specs.Journals.{events, Step, Settling}
+use Rattle.cb_spec.specs.Journals.{events, Step, Settling, Due, MayEnd}
 use Rattle.cb_code.specs.declared.place.Place.{Place}
-use Rattle.cb_code.specs.declared.place.Place.TheVariants.{At, Ready, Ended}
+use Rattle.cb_code.specs.declared.place.Place.TheVariants.{At, Ended}
 use Rattle.cb_code.specs.Nodes.{part}
 use Rattle.cb_settling.specs.declared.settle.Outcome.{Outcome}
 use Rattle.cb_settling.specs.declared.settle.Outcome.TheVariants.{Shown, Over}
@@ -96,11 +96,27 @@ module _ (y : System) (limit : ℕ) (s0 : Writes) (es : List Entry) (ps : List P
   -- ---- the end
 
   -- want of memory ends the journal
-  pub stops : (len' room' : ℕ) (new : List Entry) → last_end es ≡ None → new ≡ es ++ entry.End Memory ∷ [] →
-      Keeps y limit s0 new (state_in ps store places) count (Some Memory) len' room' × Laid y ps places bodies × IsRoomy y store × AreCounted places unsettled living
+  pub stops : (len' room' : ℕ) (new : List Entry) → last_end es ≡ None → new ≡ es ++ entry.End cause.Memory ∷ [] →
+      Keeps y limit s0 new (state_in ps store places) count (Some cause.Memory) len' room' × Laid y ps places bodies × IsRoomy y store × AreCounted places unsettled living
   stops len' room' new none is = (
-    keeps_more _ _ _ _ _ _ _ _ _ h.0 (entry.End Memory) (state_in ps store places) new count len' room' none (is_open _ _ _ _ _ _ _ _ _ h.0 none, tt, refl) is (omega arith) (λ n. absurd (let s : Some Memory ≡ None = n in cc)),
+    keeps_more _ _ _ _ _ _ _ _ _ h.0 (entry.End cause.Memory) (state_in ps store places) new count len' room' none (is_open _ _ _ _ _ _ _ _ _ h.0 none, tt, refl) is (omega arith) (λ n. absurd (let s : Some cause.Memory ≡ None = n in cc)),
     h.1,
     h.2,
     h.3,
   )
+
+  -- a cause that is due ends it
+  pub ends : (c : End) (len' room' : ℕ) (new : List Entry) → Due y limit es (state_of (state_in ps store places)) c → last_end es ≡ None → new ≡ es ++ entry.End c ∷ [] →
+      Keeps y limit s0 new (state_in ps store places) count (Some c) len' room' × Laid y ps places bodies × IsRoomy y store × AreCounted places unsettled living
+  ends c len' room' new due none is = (
+    keeps_more _ _ _ _ _ _ _ _ _ h.0 (entry.End c) (state_in ps store places) new count len' room' none (is_open _ _ _ _ _ _ _ _ _ h.0 none, may_end c due, refl) is (omega arith) (λ n. absurd (let s : Some c ≡ None = n in cc)),
+    h.1,
+    h.2,
+    h.3,
+  )
+    where
+      may_end : (c : End) → Due y limit es (state_of (state_in ps store places)) c → MayEnd y limit es (state_of (state_in ps store places)) c
+      may_end cause.Ended d = d
+      may_end cause.Limit d = d
+      may_end cause.Quiet d = d
+      may_end cause.Memory d = tt

@@ -27,6 +27,12 @@ pub record CanLook (ps : List ProcessTree) (places : List Place) (offers : Offer
   pub tabled : IsTabled system ps places offers
   pub range : i < length places
 
+-- these branches meet on the channel
+abbrev pub IsMeeting : List (List Side) → ℕ → Firing → Type 0
+IsMeeting rows k Nothing = ⊥
+IsMeeting rows k (Calls b) = ⊥
+IsMeeting rows k (Passes j m n) = (j ≡ k) × (meeting rows k ≡ Some (m, n))
+
 -- what is found in the rows is what the controller can do
 abbrev pub IsFound : List (List Side) → ℕ → Firing → Type 0
 IsFound rows i Nothing = IsIdle rows i

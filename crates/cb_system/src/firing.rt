@@ -1,8 +1,9 @@
 //! What a controller can do.
 
 ghost use Rattle.std.specs.Prelude.{◌≡◌, ◌<◌, length};
-ghost use Rattle.cb_system.specs.Rows.{rows_at};
-ghost use Rattle.cb_system.specs.Tabled.{CanLook, IsFound};
+ghost use Rattle.std.specs.Prelude.{◌<◌, ◌≢◌, None};
+ghost use Rattle.cb_offers.specs.Tables.{meeting};
+ghost use Rattle.cb_system.specs.Tabled.{CanLook, IsMeeting, IsFound};
 
 use crate::branch::branch_at;
 use cb_code::code::Code;
@@ -33,6 +34,18 @@ fn any_branch<P: Pick>(place: &Place, pick: &mut P) -> u32 {
     }
 }
 
+// What passes on the channel, both ends of which are offered.
+fn passing(offers: &Offers, channel: u32) -> Firing
+    requires range { channel < offers.now.channels }
+    requires meets { meeting offers.now.rows channel ≢ None }
+    ensures { IsMeeting offers.now.rows channel result }
+{
+    match offers.meet(channel) {
+        Some((sent, got)) => Firing::Passes { channel, sent, got },
+        None => unreachable!(),
+    }
+}
+
 /// What the controller can do. The search begins at a branch that the picker chooses.
 pub fn firing_of<P: Pick>(
     code: &Code,
@@ -42,23 +55,15 @@ pub fn firing_of<P: Pick>(
     pick: &mut P,
 ) -> Firing
     requires { CanLook code.now places.now offers.now controller }
-    ensures { IsFound (rows_at code.now places.now) controller result }
+    ensures { IsFound offers.now.rows controller result }
 {
     let from = any_branch(&places[controller as usize], pick);
     match offers.firing(controller, from) {
         None => Firing::Nothing,
         Some(branch) => match branch_at(code, places, controller, branch).event {
             Event::Call { .. } => Firing::Calls { branch },
-            Event::Output { channel, .. } | Event::Input { channel, .. } => {
-                match offers.meet(*channel) {
-                    Some((sent, got)) => Firing::Passes {
-                        channel: *channel,
-                        sent,
-                        got,
-                    },
-                    None => unreachable!(),
-                }
-            }
+            Event::Output { channel, .. } => passing(offers, *channel),
+            Event::Input { channel, .. } => passing(offers, *channel),
         },
     }
 }

@@ -6,6 +6,8 @@ use Rattle.cb_spec.specs.States.{state_of}
 use Rattle.cb_spec.specs.Journals.{events}
 use Rattle.cb_spec.specs.declared.system.System.{System}
 use Rattle.cb_code.specs.declared.place.Place.{Place}
+use Rattle.cb_code.specs.declared.place.Place.TheVariants.{At}
+use Rattle.cb_system.proofs.TabledLemmas.{tabled_set}
 use Rattle.cb_spec.specs.Stores.{look_of}
 use Rattle.cb_safety_laws.specs.Causes.{IsCall, Offers}
 use Rattle.cb_system.specs.Views.{RunView, last_end}
@@ -40,4 +42,13 @@ index_mut-requires g c =
     grind (arith, common_steps)
 
 pub invariant_of-self-2 : goal.invariant_of-self-2
-invariant_of-self-2 g c = ?
+invariant_of-self-2 g c =
+    let i = c.self.inside in
+    let performed = performed_fact i.sound c.spec.result.now i.code i.places.items c.as_slice.result.now (look_of i.store) c.args.controller c.args.branch c.in_ok-performed.performed c.in_ok-performed.ensures.ok c.spec.ensures.system c.as_slice.ensures.value in
+    let r = c.in_ok-performed.performed in
+    let e : Entry = entry.Op c.args.controller c.args.branch r.machine r.operation r.args r.called.results r.called.written in
+    (
+      step_performed i.sound i.limit i.initial i.journal.items i.code i.store i.places.items i.bodies.items i.count i.end _ _ i.unsettled i.living c.self.invariant.0 c.args.controller c.args.branch r performed _ _ _ _ c.push_reserved.new.self.items c.performed_at.new.store (ap (λ (r : RunView). last_end r.journal) c.self.view_is ∙ c.requires.open) (subst (λ (r : RunView). events r.journal < r.limit) (sym c.self.view_is) c.requires.more)
+      (c.push_reserved.ensures.items ∙ ap (λ (l : List Entry). l ++ e ∷ []) c.in_ok-reserve.ensures.items) c.in_ok-performed.ensures.written c.in_ok-performed.ensures.names (let p = c.push_reserved.ensures in let r = c.in_ok-reserve.ensures in omega (arith, p.len, p.capacity, r.len, r.capacity, r.ok)) refl refl,
+      tabled_set i.sound i.code i.places.items i.offers c.self.invariant.1 c.args.controller (At r.next r.env) [] c.clear.new.self c.clear.ensures refl,
+    )
