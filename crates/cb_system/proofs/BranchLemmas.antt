@@ -1,10 +1,10 @@
 -- Branches that controllers offer: as code finds them, and as the state has them.
 use Rattle.std.proofs.Common.{◌≡◌, ℕ, zero, suc, ◌<◌, List, [], ◌∷◌, length, slice_get, get_or, Option, Some, None, unwrap_or, ◌⊎◌, inl, inr, refl, sym, ap, subst, ◌∙◌, arith}
-use Rattle.std.proofs.lemmas.Option.{slice_get_within, slice_get-get_or, get_or_from_slice_get}
+use Rattle.std.proofs.lemmas.Option.{slice_get_within, get_or_from_slice_get}
 use Rattle.cb_spec.specs.declared.event.Event.{Event}
-use Rattle.cb_spec.specs.ProcessTree.{ProcessTree, Stop, Prefix}
+use Rattle.cb_spec.specs.ProcessTree.{ProcessTree, Stop}
 use Rattle.cb_spec.specs.Stores.{Writes, look_of}
-use Rattle.cb_spec.specs.States.{IsAt, BranchView, ControlView, Offering, StateView, control_of, state_of}
+use Rattle.cb_spec.specs.States.{IsAt, BranchView, Offering, control_of, state_of}
 use Rattle.cb_safety_laws.specs.Causes.{Offers}
 use Rattle.cb_safety_laws.proofs.Lists.{at_map, two_at}
 use Rattle.cb_code.specs.declared.place.Place.{Place}

@@ -1,5 +1,5 @@
 -- A call that a controller offers: what performing it asks, and what comes of it.
-use Rattle.std.proofs.Common.{◌≡◌, ℕ, ◌<◌, List, length, get_or, map, Option, Some, ◌⊎◌, inl, inr, refl, sym, ap, subst, ◌∙◌}
+use Rattle.std.proofs.Common.{◌≡◌, ℕ, ◌<◌, List, length, get_or, map, Option, Some, ◌⊎◌, inl, inr, sym, ap, subst, ◌∙◌}
 use Rattle.std.proofs.lemmas.Option.{slice_get-get_or}
 use Rattle.cb_term.specs.declared.name.Name.{Name}
 use Rattle.cb_term.specs.declared.value.Value.{Value}
@@ -22,7 +22,7 @@ use Rattle.cb_safety_laws.proofs.Lists.{two_at, at_below}
 use Rattle.cb_code.specs.declared.place.Place.{Place}
 use Rattle.cb_settling.specs.declared.call.Called.{Called}
 use Rattle.cb_settling.specs.Ops.{AllThere, HasRoom, KeepsNames}
-use Rattle.cb_settling.specs.Calling.{IsCalled, CanCall, IsRoomy}
+use Rattle.cb_settling.specs.Calling.{IsCalled, CanCall}
 use Rattle.cb_settling.specs.Resolving.{AreTypedIn}
 use Rattle.cb_settling.proofs.CalledLemmas.{kept_own}
 use Rattle.cb_settling.proofs.RoomLemmas.{room_called, written_there}

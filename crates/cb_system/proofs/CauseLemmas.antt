@@ -9,7 +9,7 @@ use Rattle.cb_spec.specs.declared.system.Controller.{Controller}
 use Rattle.cb_spec.specs.declared.system.System.{System}
 use Rattle.cb_spec.specs.ProcessTree.{ProcessTree, Prefix}
 use Rattle.cb_spec.specs.Stores.{Writes}
-use Rattle.cb_spec.specs.States.{IsAt, ControlView, StateView, state_of}
+use Rattle.cb_spec.specs.States.{IsAt, StateView, state_of}
 use Rattle.cb_spec.specs.Journals.{IsStill, Leads}
 use Rattle.cb_spec.specs.TypedTerms.{Scope}
 use Rattle.cb_spec.specs.TypedProcesses.{TypedProcess}

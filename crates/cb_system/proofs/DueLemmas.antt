@@ -1,6 +1,5 @@
 -- The cause that is found is the one that is due.
 use Rattle.std.proofs.Common.{◌≡◌, ℕ, ◌≢◌, ◌<◌, List, Option, None, Some, sym, subst, ◌∙◌, arith}
-use Rattle.std.specs.List.{sum_by}
 use Rattle.cb_spec.specs.declared.state.Entry.{Entry}
 use Rattle.cb_spec.specs.declared.state.End.{End}
 use Rattle.cb_spec.specs.declared.state.End.TheVariants.{Ended, Limit, Quiet, Memory}
@@ -8,12 +7,12 @@ use Rattle.cb_spec.specs.declared.system.System.{System}
 use Rattle.cb_spec.specs.ProcessTree.{ProcessTree}
 use Rattle.cb_spec.specs.Stores.{Writes}
 use Rattle.cb_spec.specs.States.{StateView, state_of}
-use Rattle.cb_spec.specs.Journals.{events, AllEnded, AllSettled, IsStill, Due}
+use Rattle.cb_spec.specs.Journals.{events, AllEnded, IsStill, Due}
 use Rattle.cb_code.specs.declared.place.Place.{Place}
 use Rattle.cb_offers.specs.declared.offers.Side.{Side}
 use Rattle.cb_offers.specs.Tables.{AreIdle}
 use Rattle.cb_beginning.specs.Placed.{state_in, Laid}
-use Rattle.cb_system.specs.Kept.{Keeps, is_unsettled, is_living, AreCounted}
+use Rattle.cb_system.specs.Kept.{Keeps, AreCounted}
 use Rattle.cb_system.specs.Dues.{IsCause}
 use Rattle.cb_system.specs.Rows.{rows_at}
 use Rattle.cb_system.proofs.CauseLemmas.{still_there, stirs_there}

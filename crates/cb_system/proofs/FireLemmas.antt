@@ -1,43 +1,35 @@
 -- What the terms and names of an offered branch are, and what comes of it.
-use Rattle.std.proofs.Common.{◌≡◌, ℕ, suc, ◌+◌, ◌<◌, List, [], ◌∷◌, ◌++◌, length, slice_get, slice_set, Option, Some, refl, sym, ap, subst, ◌∙◌, inl, arith}
+use Rattle.std.proofs.Common.{◌≡◌, ℕ, suc, List, [], ◌∷◌, length, slice_get, Option, refl, sym, ap, subst, ◌∙◌}
 use Rattle.cb_term.specs.declared.name.Name.{Name}
 use Rattle.cb_term.specs.declared.value.Value.{Value}
 use Rattle.cb_term.specs.Tree.{TermTree, FormulaTree}
 use Rattle.cb_term.specs.Values.{Look}
-use Rattle.cb_spec.specs.declared.event.Event.{Event}
 use Rattle.cb_spec.specs.declared.event.Event.TheVariants as event
-use Rattle.cb_spec.specs.declared.state.Entry.{Entry}
 use Rattle.cb_spec.specs.declared.system.Channel.{Channel}
-use Rattle.cb_spec.specs.declared.system.Controller.{Controller}
 use Rattle.cb_spec.specs.declared.system.Declared.{Declared}
 use Rattle.cb_spec.specs.declared.system.Machine.{Machine}
 use Rattle.cb_spec.specs.declared.system.Operation.{Operation}
 use Rattle.cb_spec.specs.declared.system.System.{System}
 use Rattle.cb_spec.specs.ProcessTree.{ProcessTree}
-use Rattle.cb_spec.specs.Bound.{names, only, bind}
-use Rattle.cb_spec.specs.Stores.{Writes, over, look_of, SameMap}
-use Rattle.cb_spec.specs.States.{IsAt, BranchView, ControlView, AtProcess, Offering, StateView, state_of}
+use Rattle.cb_spec.specs.Stores.{Writes, look_of}
+use Rattle.cb_spec.specs.States.{IsAt, StateView, state_of}
 use Rattle.cb_spec.specs.Settling.{AreValues}
-use Rattle.cb_spec.specs.Journals.{set_sizes, results_after, Operating, Passing}
+use Rattle.cb_spec.specs.Journals.{set_sizes, results_after}
 use Rattle.cb_spec.specs.TypedTerms.{Scope}
 use Rattle.cb_spec.specs.TypedProcesses.{TypedArgs, kinds_of}
 use Rattle.cb_typed.proofs.Erasing.{some_and}
-use Rattle.cb_safety_laws.specs.Causes.{IsOutput, IsInput, Offers, Meet}
-use Rattle.cb_safety_laws.proofs.Lists.{map_length, two_at, at_below}
+use Rattle.cb_safety_laws.proofs.Lists.{map_length, two_at}
 use Rattle.cb_safety_laws.proofs.Steps.{offered_is_fine}
 use Rattle.cb_code.specs.declared.place.Place.{Place}
-use Rattle.cb_code.specs.declared.place.Place.TheVariants.{At, Ready}
 use Rattle.cb_code.specs.Nodes.{part}
 use Rattle.cb_settling.specs.declared.call.Called.{Called}
 use Rattle.cb_settling.specs.Calling.{IsCalled, CanCall}
 use Rattle.cb_settling.specs.Resolving.{AreTypedIn}
-use Rattle.cb_settling.proofs.CalledLemmas.{kept_own}
-use Rattle.cb_settling.proofs.GoodLemmas.{call_typed, can_call, output_typed, operating}
+use Rattle.cb_settling.proofs.GoodLemmas.{call_typed, can_call, output_typed}
 use Rattle.cb_beginning.specs.Placed.{state_in}
 use Rattle.cb_system.specs.Branches.{IsBranch}
 use Rattle.cb_system.specs.Moves.{AreGood}
 use Rattle.cb_system.proofs.BranchLemmas.{from_place, branch_there}
-use Rattle.cb_system.proofs.PlaceLemmas.{controls_set}
 
 pub values_many : (sizes : List ℕ) (look : Look) (ts : List TermTree) (vs : List Value) → AreValues sizes look ts vs → length ts ≡ length vs
 values_many sizes look [] [] h = refl

@@ -1,18 +1,15 @@
 -- A running value keeps what it keeps where a branch fires: the steps over plain values.
-use Rattle.std.proofs.Common.{◌≡◌, ℕ, ◌+◌, ◌<◌, ◌^◌, List, [], ◌∷◌, ◌++◌, map, length, slice_set, Option, Some, None, refl, sym, ap, subst, ◌∙◌, arith}
-use Rattle.std.specs.List.{sum_by}
+use Rattle.std.proofs.Common.{◌≡◌, ℕ, ◌+◌, ◌<◌, ◌^◌, List, [], ◌∷◌, ◌++◌, length, slice_set, Option, None, refl, sym, ap, subst, ◌∙◌, arith}
 use Rattle.std.proofs.lemmas.Option.{slice_get_within}
 use Rattle.cb_term.specs.Values.{Look}
-use Rattle.cb_spec.specs.declared.event.Event.TheVariants as event
 use Rattle.cb_spec.specs.declared.state.Entry.{Entry}
 use Rattle.cb_spec.specs.declared.state.Entry.TheVariants as entry
 use Rattle.cb_spec.specs.declared.state.End.{End}
-use Rattle.cb_spec.specs.declared.system.Channel.{Channel}
 use Rattle.cb_spec.specs.declared.system.System.{System}
 use Rattle.cb_spec.specs.ProcessTree.{ProcessTree}
 use Rattle.cb_spec.specs.Bound.{names, bind}
 use Rattle.cb_spec.specs.Stores.{Writes, over, look_of}
-use Rattle.cb_spec.specs.States.{IsAt, ControlView, AtProcess, StateView, control_of, state_of}
+use Rattle.cb_spec.specs.States.{IsAt, ControlView, AtProcess, StateView, state_of}
 use Rattle.cb_spec.specs.Journals.{events, Step, Operating, Passing}
 use Rattle.cb_safety_laws.proofs.Lists.{set_length}
 use Rattle.cb_code.specs.declared.place.Place.{Place}
@@ -28,11 +25,9 @@ use Rattle.cb_system.specs.declared.perform.Performed.{Performed}
 use Rattle.cb_system.specs.declared.pass.Passed.{Passed}
 use Rattle.cb_system.specs.Views.{last_end}
 use Rattle.cb_system.specs.Kept.{Keeps, is_unsettled, is_living, AreCounted}
-use Rattle.cb_system.specs.Branches.{IsBranch}
-use Rattle.cb_system.specs.Moves.{AreGood}
 use Rattle.cb_system.specs.Firing.{IsPerformed, IsPassed}
 use Rattle.cb_system.proofs.JournalLemmas.{is_open, keeps_more, keeps_same}
-use Rattle.cb_system.proofs.PlaceLemmas.{seen, control_at, controls_set, laid_set, sum_set, set_twice, other_at}
+use Rattle.cb_system.proofs.PlaceLemmas.{seen, controls_set, laid_set, sum_set, set_twice, other_at}
 use Rattle.cb_system.proofs.BranchLemmas.{from_place, branch_there}
 use Rattle.cb_system.proofs.CountLemmas.{few_unsettled}
 

@@ -1,21 +1,19 @@
 -- What is found in the rendezvous table is what a controller can do.
-use Rattle.std.proofs.Common.{◌≡◌, ℕ, ◌<◌, ◌≢◌, List, slice_get, Option, Some, None, refl, sym, ap, subst, ◌∙◌, ◌⊎◌, inl, inr}
+use Rattle.std.proofs.Common.{◌≡◌, ℕ, ◌<◌, List, Some, sym, ap, subst, ◌∙◌, ◌⊎◌, inl, inr}
 use Rattle.cb_spec.specs.declared.event.Event.{Event}
-use Rattle.cb_spec.specs.declared.event.Event.TheVariants as event
 use Rattle.cb_spec.specs.declared.state.Entry.{Entry}
 use Rattle.cb_spec.specs.declared.system.Channel.{Channel}
 use Rattle.cb_spec.specs.declared.system.System.{System}
 use Rattle.cb_spec.specs.ProcessTree.{ProcessTree}
 use Rattle.cb_spec.specs.Stores.{Writes}
 use Rattle.cb_spec.specs.States.{IsAt, StateView, state_of}
-use Rattle.cb_spec.specs.Journals.{Leads}
-use Rattle.cb_safety_laws.specs.Causes.{IsCall, Offers, Meet, TakesPart}
+use Rattle.cb_safety_laws.specs.Causes.{Meet}
 use Rattle.cb_safety_laws.proofs.Lists.{two_at, at_below}
 use Rattle.cb_code.specs.declared.place.Place.{Place}
 use Rattle.cb_code.specs.Nodes.{part}
 use Rattle.cb_offers.specs.declared.offers.Side.{Side}
 use Rattle.cb_offers.specs.declared.offers.Side.TheVariants as side
-use Rattle.cb_offers.specs.Tables.{OffersView, meeting, Fires, IsOffered, IsIdle, IsFiring}
+use Rattle.cb_offers.specs.Tables.{OffersView, meeting, Fires, IsOffered, IsFiring}
 use Rattle.cb_beginning.specs.Placed.{state_in}
 use Rattle.cb_system.specs.declared.firing.Firing.{Firing}
 use Rattle.cb_system.specs.declared.firing.Firing.TheVariants.{Nothing, Calls, Passes}
@@ -24,7 +22,6 @@ use Rattle.cb_system.specs.Moves.{AreGood}
 use Rattle.cb_system.specs.Rows.{side_of, rows_at}
 use Rattle.cb_system.specs.Tabled.{CanLook, IsMeeting, IsFound}
 use Rattle.cb_system.specs.Found.{CanFire}
-use Rattle.cb_system.proofs.BranchLemmas.{offers_place}
 use Rattle.cb_system.proofs.RowLemmas.{branch_of_side, side_of_branch}
 use Rattle.cb_system.proofs.CauseLemmas.{idle_there, call_there, meet_there, output_there, input_there, sender_is, receiver_is, sender_takes_part, receiver_takes_part}
 

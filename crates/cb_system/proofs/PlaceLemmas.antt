@@ -1,24 +1,22 @@
 -- Places of controllers, and what they are in the state.
-use Rattle.std.proofs.Common.{◌≡◌, ℕ, zero, suc, ◌+◌, ◌<◌, ◌≤◌, List, [], ◌∷◌, map, length, slice_get, slice_set, get_or, Option, Some, None, unwrap_or, refl, sym, ap, subst, ◌∙◌, ◌⊎◌, inl, inr, arith}
+use Rattle.std.proofs.Common.{◌≡◌, ℕ, zero, suc, ◌+◌, ◌<◌, List, [], ◌∷◌, map, length, slice_get, slice_set, get_or, Some, unwrap_or, refl, sym, ap, subst, ◌∙◌, ◌⊎◌, inl, inr}
 use Rattle.std.specs.List.{sum_by}
-use Rattle.std.proofs.lemmas.List.{map-set}
 use Rattle.std.proofs.lemmas.List.Sums.{sum_by-set}
-use Rattle.std.proofs.lemmas.Option.{slice_get_within, slice_get-get_or, get_or_from_slice_get, slice_get-map, same_Some}
+use Rattle.std.proofs.lemmas.Option.{slice_get_within, slice_get-get_or, get_or_from_slice_get}
 use Rattle.cb_spec.specs.declared.system.Controller.{Controller}
 use Rattle.cb_spec.specs.declared.system.System.{System}
 use Rattle.cb_spec.specs.ProcessTree.{ProcessTree, Stop, Skip, Call, Prefix, Choice, Internal, If}
 use Rattle.cb_spec.specs.Stores.{Writes, look_of}
-use Rattle.cb_spec.specs.States.{IsAt, ControlView, AtProcess, Offering, Done, StateView, branch_of, control_of, state_of}
+use Rattle.cb_spec.specs.States.{IsAt, ControlView, Offering, branch_of, control_of, state_of}
 use Rattle.cb_spec.specs.Journals.{IsNumbered}
 use Rattle.cb_spec.specs.Typed.{Typed}
-use Rattle.cb_safety_laws.proofs.Lists.{at_set, set_length, two_at}
+use Rattle.cb_safety_laws.proofs.Lists.{at_set, set_length}
 use Rattle.cb_code.specs.declared.place.Place.{Place}
 use Rattle.cb_code.specs.declared.place.Place.TheVariants.{At, Ready, Ended}
 use Rattle.cb_code.specs.Nodes.{part}
 use Rattle.cb_settling.specs.Branches.{offered, branches_at, ArePrefixes}
 use Rattle.cb_settling.specs.Resolving.{HasBodies}
 use Rattle.cb_beginning.specs.Placed.{branch_on, tree_control, state_in, Laid}
-use Rattle.cb_system.specs.Kept.{is_unsettled, is_living, AreCounted}
 
 -- ---- lists
 

@@ -1,32 +1,22 @@
 -- What the rendezvous table's rows tell of the state.
-use Rattle.std.proofs.Common.{◌≡◌, ℕ, zero, suc, ◌<◌, ◌≢◌, Bool, true, false, eqb, List, [], ◌∷◌, map, length, slice_get, Option, Some, None, unwrap_or, if◌then◌else◌, refl, sym, ap, subst, ◌∙◌, ◌⊎◌, inl, inr, arith}
+use Rattle.std.proofs.Common.{◌≡◌, ℕ, zero, suc, ◌≢◌, Bool, true, false, List, [], ◌∷◌, slice_get, Option, Some, None, unwrap_or, if◌then◌else◌, refl, sym, ap, subst, ◌∙◌}
 use Rattle.std.proofs.lemmas.Bool.{eqb-true, eq-eqb}
 use Rattle.cb_spec.specs.declared.event.Event.{Event}
-use Rattle.cb_spec.specs.declared.event.Event.TheVariants as event
-use Rattle.cb_spec.specs.declared.system.Channel.{Channel}
-use Rattle.cb_spec.specs.declared.system.System.{System}
 use Rattle.cb_spec.specs.ProcessTree.{ProcessTree, Stop, Skip, Call, Prefix, Choice, Internal, If}
 use Rattle.cb_spec.specs.Stores.{Writes}
-use Rattle.cb_spec.specs.States.{IsAt, BranchView, ControlView, Offering, StateView, state_of}
-use Rattle.cb_spec.specs.Journals.{IsStill, Leads}
-use Rattle.cb_typed.proofs.Erasing.{some_and}
-use Rattle.cb_safety_laws.specs.Causes.{IsOutput, IsInput, IsCall, Offers, Meet, HasNothingToDo, NobodyHas, CanAct, OffersCanAct}
+use Rattle.cb_spec.specs.States.{IsAt}
 use Rattle.cb_safety_laws.proofs.Lists.{at_map, two_at}
-use Rattle.cb_safety_laws.proofs.Scans.{scans_are_exact, offers_can_act}
-use Rattle.cb_safety_laws.proofs.Steps.{offered_is_fine}
 use Rattle.cb_code.specs.declared.place.Place.{Place}
 use Rattle.cb_code.specs.declared.place.Place.TheVariants.{At, Ready, Ended}
 use Rattle.cb_code.specs.Nodes.{part}
 use Rattle.cb_settling.specs.Branches.{IsPrefix}
 use Rattle.cb_offers.specs.declared.offers.Side.{Side}
 use Rattle.cb_offers.specs.declared.offers.Side.TheVariants as side
-use Rattle.cb_offers.specs.Tables.{sends, receives, next, first_in, or_else, first_of, both, meeting, Fires, IsOffered, IsIdle, AreIdle}
-use Rattle.cb_beginning.specs.Placed.{state_in}
+use Rattle.cb_offers.specs.Tables.{sends, receives, next, first_in, or_else, first_of, both, meeting, IsOffered}
 use Rattle.cb_system.specs.Branches.{AreOffered, HasBranch, IsShown}
 use Rattle.cb_system.specs.Rows.{side_of, side_at, row_at, rows_at}
-use Rattle.cb_system.specs.Moves.{AreGood}
 use Rattle.cb_system.proofs.PlaceLemmas.{get_map}
-use Rattle.cb_system.proofs.BranchLemmas.{prefix_at, offers_place, event_is, offered_so, from_place, branch_there}
+use Rattle.cb_system.proofs.BranchLemmas.{prefix_at}
 
 -- ---- first ones
 

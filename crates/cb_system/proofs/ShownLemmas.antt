@@ -1,5 +1,5 @@
 -- The sides that a resolved process offers fit the rendezvous table.
-use Rattle.std.proofs.Common.{◌≡◌, ℕ, zero, suc, ◌+◌, ◌-◌, ◌<◌, ◌^◌, List, [], ◌∷◌, ◌++◌, length, slice_get, slice_set, Option, Some, None, unwrap_or, refl, sym, ap, subst, ◌∙◌, arith}
+use Rattle.std.proofs.Common.{◌≡◌, ℕ, suc, ◌+◌, ◌-◌, ◌<◌, ◌^◌, List, [], ◌∷◌, ◌++◌, length, slice_get, slice_set, Option, Some, None, unwrap_or, refl, sym, ap, subst, ◌∙◌, arith}
 use Rattle.cb_spec.specs.declared.state.Entry.{Entry}
 use Rattle.cb_spec.specs.declared.state.Entry.TheVariants as entry
 use Rattle.cb_spec.specs.declared.state.End.{End}
@@ -12,7 +12,7 @@ use Rattle.cb_spec.specs.Settling.{Settles}
 use Rattle.cb_safety_laws.proofs.Lists.{at_below, map_length}
 use Rattle.cb_safety_laws.proofs.Steps.{branches_are_few}
 use Rattle.cb_code.specs.declared.place.Place.{Place}
-use Rattle.cb_code.specs.declared.place.Place.TheVariants.{At, Ready, Ended}
+use Rattle.cb_code.specs.declared.place.Place.TheVariants.{At}
 use Rattle.cb_code.specs.Nodes.{part}
 use Rattle.cb_settling.specs.declared.settle.Outcome.{Outcome}
 use Rattle.cb_settling.specs.declared.settle.Outcome.TheVariants.{Shown, Over}
@@ -25,9 +25,9 @@ use Rattle.cb_offers.specs.Tables.{AreWithin, IsOffered}
 use Rattle.cb_beginning.specs.Placed.{state_in, Laid}
 use Rattle.cb_system.specs.Views.{last_end}
 use Rattle.cb_system.specs.Kept.{Keeps, lives, AreCounted}
-use Rattle.cb_system.specs.Moves.{AreGood, env_at, after, SettledAt}
+use Rattle.cb_system.specs.Moves.{AreGood, after, SettledAt}
 use Rattle.cb_system.specs.Branches.{AreOffered}
-use Rattle.cb_system.specs.Rows.{side_at, sides_at, row_at, row_shown, rows_at}
+use Rattle.cb_system.specs.Rows.{side_at, row_at, row_shown, rows_at}
 use Rattle.cb_system.proofs.PlaceLemmas.{get_map, get_same, control_at}
 use Rattle.cb_system.proofs.StepLemmas.{settled_counts, step_settled}
 use Rattle.cb_system.proofs.CauseLemmas.{sender_is, receiver_is, output_there, input_there}

@@ -1,15 +1,13 @@
 -- A running value keeps what it keeps: the steps over plain values.
-use Rattle.std.proofs.Common.{◌≡◌, ℕ, ◌+◌, ◌-◌, ◌<◌, List, [], ◌∷◌, ◌++◌, map, length, slice_set, Option, Some, None, IfSome, refl, sym, ap, subst, ◌∙◌, arith}
-use Rattle.std.specs.List.{sum_by}
+use Rattle.std.proofs.Common.{◌≡◌, ℕ, ◌+◌, ◌-◌, ◌<◌, List, [], ◌∷◌, ◌++◌, slice_set, Option, Some, None, IfSome, refl, sym, ap, subst, ◌∙◌, arith}
 use Rattle.cb_spec.specs.declared.state.Entry.{Entry}
 use Rattle.cb_spec.specs.declared.state.Entry.TheVariants as entry
 use Rattle.cb_spec.specs.declared.state.End.{End}
 use Rattle.cb_spec.specs.declared.state.End.TheVariants as cause
-use Rattle.cb_spec.specs.declared.system.Controller.{Controller}
 use Rattle.cb_spec.specs.declared.system.System.{System}
 use Rattle.cb_spec.specs.ProcessTree.{ProcessTree}
 use Rattle.cb_spec.specs.Stores.{Writes, look_of}
-use Rattle.cb_spec.specs.States.{IsAt, ControlView, StateView, control_of, state_of}
+use Rattle.cb_spec.specs.States.{ControlView, state_of}
 use Rattle.cb_spec.specs.Journals.{events, Step, Settling, Due, MayEnd}
 use Rattle.cb_code.specs.declared.place.Place.{Place}
 use Rattle.cb_code.specs.declared.place.Place.TheVariants.{At, Ended}
@@ -19,7 +17,7 @@ use Rattle.cb_settling.specs.declared.settle.Outcome.TheVariants.{Shown, Over}
 use Rattle.cb_settling.specs.Calling.{IsRoomy}
 use Rattle.cb_settling.specs.Resolving.{here_of, outcome_of, ShowsPrefixes}
 use Rattle.cb_settling.proofs.GoodLemmas.{settling}
-use Rattle.cb_beginning.specs.Placed.{tree_control, state_in, Laid}
+use Rattle.cb_beginning.specs.Placed.{state_in, Laid}
 use Rattle.cb_system.specs.Views.{last_end}
 use Rattle.cb_system.specs.Kept.{Keeps, is_unsettled, is_living, lives, AreCounted}
 use Rattle.cb_system.specs.Moves.{env_at, after, SettledAt}

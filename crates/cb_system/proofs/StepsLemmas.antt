@@ -1,6 +1,5 @@
 -- What a step does, put together of what its parts do.
-use Rattle.std.proofs.Common.{◌≡◌, ℕ, List, refl, sym, ap, subst, ◌∙◌}
-use Rattle.cb_term.specs.Values.{Look}
+use Rattle.std.proofs.Common.{◌≡◌, ℕ, List, ap, ◌∙◌}
 use Rattle.cb_spec.specs.declared.system.System.{System}
 use Rattle.cb_spec.specs.ProcessTree.{ProcessTree}
 use Rattle.cb_spec.specs.Stores.{Writes, look_of}
@@ -13,10 +12,9 @@ use Rattle.cb_settling.specs.declared.settle.Outcome.{Outcome}
 use Rattle.cb_beginning.specs.Placed.{tree_control, state_in}
 use Rattle.cb_system.specs.Moves.{SettledAt, IsElsewhere}
 use Rattle.cb_system.proofs.PlaceLemmas.{seen, control_at}
-use Rattle.cb_spec.specs.declared.state.Entry.{Entry}
-use Rattle.cb_spec.specs.States.{StateView, state_of}
-use Rattle.cb_system.specs.Views.{RunView, IsSame, HasSettle}
-use Rattle.cb_system.specs.Steps.{IsUnresolved, IsGoing, HasFired, HasNone}
+use Rattle.cb_spec.specs.States.{state_of}
+use Rattle.cb_system.specs.Views.{RunView, IsSame}
+use Rattle.cb_system.specs.Steps.{IsUnresolved}
 
 pub same_view : (old new : RunView) → new ≡ old → IsSame old new
 same_view old new e = record {

@@ -1,12 +1,12 @@
 -- The rendezvous table stays that of the places.
-use Rattle.std.proofs.Common.{◌≡◌, ℕ, ◌<◌, List, [], length, map, slice_set, refl, sym, ap, subst, ◌∙◌}
+use Rattle.std.proofs.Common.{◌≡◌, ℕ, List, length, slice_set, sym, ap, subst, ◌∙◌}
 use Rattle.cb_spec.specs.declared.system.System.{System}
 use Rattle.cb_spec.specs.ProcessTree.{ProcessTree}
 use Rattle.cb_safety_laws.proofs.Lists.{map_length}
 use Rattle.cb_code.specs.declared.place.Place.{Place}
 use Rattle.cb_offers.specs.declared.offers.Side.{Side}
 use Rattle.cb_offers.specs.Tables.{OffersView}
-use Rattle.cb_system.specs.Rows.{row_at, rows_at}
+use Rattle.cb_system.specs.Rows.{row_at}
 use Rattle.cb_system.specs.Tabled.{IsTabled}
 use Rattle.cb_system.proofs.PlaceLemmas.{set_map, set_twice}
 

@@ -1,15 +1,14 @@
 -- How branches fire that controllers offer.
-use Rattle.std.specs.Prelude.{ℕ, ◌≡◌, ◌<◌, ⊤, Option, List}
+use Rattle.std.specs.Prelude.{ℕ, ◌≡◌, Option, List}
 use Rattle.cb_term.specs.declared.name.Name.{Name}
 use Rattle.cb_term.specs.Tree.{TermTree, FormulaTree}
 use Rattle.cb_term.specs.Values.{Look}
-use Rattle.cb_spec.specs.declared.event.Event.{Event}
 use Rattle.cb_spec.specs.declared.event.Event.TheVariants as event
 use Rattle.cb_spec.specs.declared.system.Channel.{Channel}
 use Rattle.cb_spec.specs.declared.system.Machine.{Machine}
 use Rattle.cb_spec.specs.declared.system.Operation.{Operation}
 use Rattle.cb_spec.specs.declared.system.System.{System}
-use Rattle.cb_spec.specs.ProcessTree.{ProcessTree, Prefix}
+use Rattle.cb_spec.specs.ProcessTree.{ProcessTree}
 use Rattle.cb_spec.specs.Bound.{bind}
 use Rattle.cb_spec.specs.Stores.{Writes, over, look_of}
 use Rattle.cb_spec.specs.States.{IsAt, state_of}
@@ -17,9 +16,6 @@ use Rattle.cb_spec.specs.Settling.{AreValues}
 use Rattle.cb_spec.specs.Journals.{set_sizes}
 use Rattle.cb_safety_laws.specs.Causes.{IsCall, Offers, Meet}
 use Rattle.cb_code.specs.declared.place.Place.{Place}
-use Rattle.cb_code.specs.declared.place.Place.TheVariants.{At, Ready, Ended}
-use Rattle.cb_code.specs.Nodes.{part}
-use Rattle.cb_settling.specs.Branches.{ArePrefixes}
 use Rattle.cb_settling.specs.Calling.{IsCalled, IsRoomy}
 use Rattle.cb_beginning.specs.Placed.{state_in}
 use Rattle.cb_system.specs.declared.perform.Performed.{Performed}

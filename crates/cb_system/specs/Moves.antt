@@ -1,5 +1,5 @@
 -- How a controller moves on whose process is resolved.
-use Rattle.std.specs.Prelude.{ℕ, ◌≡◌, ⊤, List, []}
+use Rattle.std.specs.Prelude.{ℕ, ⊤, List, []}
 use Rattle.cb_spec.specs.declared.state.Entry.{Entry}
 use Rattle.cb_spec.specs.declared.system.Controller.{Controller}
 use Rattle.cb_spec.specs.declared.system.System.{System}

@@ -1,8 +1,7 @@
 -- What controllers offer, as the rendezvous table has it.
-use Rattle.std.specs.Prelude.{ℕ, ◌≡◌, List, [], map, length}
+use Rattle.std.specs.Prelude.{ℕ, List, [], map}
 use Rattle.cb_spec.specs.declared.event.Event.{Event}
 use Rattle.cb_spec.specs.declared.event.Event.TheVariants as event
-use Rattle.cb_spec.specs.declared.system.System.{System}
 use Rattle.cb_spec.specs.ProcessTree.{ProcessTree, Stop, Skip, Call, Prefix, Choice, Internal, If}
 use Rattle.cb_code.specs.declared.place.Place.{Place}
 use Rattle.cb_code.specs.declared.place.Place.TheVariants.{At, Ready, Ended}

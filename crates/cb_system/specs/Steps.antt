@@ -1,5 +1,5 @@
 -- What a step does.
-use Rattle.std.specs.Prelude.{ℕ, ◌≡◌, ◌<◌, ◌⊎◌, None, Some, List, [], ◌∷◌, ◌++◌}
+use Rattle.std.specs.Prelude.{ℕ, ◌≡◌, ◌<◌, ◌⊎◌, None, Some, [], ◌∷◌, ◌++◌}
 use Rattle.cb_term.specs.Values.{Look}
 use Rattle.cb_spec.specs.declared.state.End.{End}
 use Rattle.cb_spec.specs.declared.state.Entry.{Entry}

@@ -150,7 +150,13 @@ impl Running {
         if let Some(end) = self.end {
             return Some(end);
         }
-        let due = cause_of(self.living, self.unsettled, self.count, self.limit, &self.offers)?;
+        let due = cause_of(
+            self.living,
+            self.unsettled,
+            self.count,
+            self.limit,
+            &self.offers,
+        )?;
         self.journal.push_reserved(Entry::End(due));
         self.end = Some(due);
         Some(due)
@@ -222,7 +228,8 @@ impl Running {
         let at = controller as usize;
         let place = mem::replace(&mut self.places[at], Place::Ended);
         self.places[at] = next(place, outcome);
-        self.journal.push_reserved(Entry::Settle { controller, bits });
+        self.journal
+            .push_reserved(Entry::Settle { controller, bits });
         Ok(true)
     }
 
@@ -261,7 +268,13 @@ impl Running {
         requires { controller < length self.now.system.order }
         ensures { CanFire controller self.now result }
     {
-        firing_of(&self.code, self.places.as_slice(), &self.offers, controller, pick)
+        firing_of(
+            &self.code,
+            self.places.as_slice(),
+            &self.offers,
+            controller,
+            pick,
+        )
     }
 
     // Performs the operation that a branch of the controller calls.
@@ -312,13 +325,7 @@ impl Running {
     }
 
     // Passes values from a branch of the channel's sender to one of its receiver.
-    fn pass_one(
-        &mut self,
-        alloc: Global,
-        channel: u32,
-        sent: u32,
-        got: u32,
-    ) -> Result<(), Memory>
+    fn pass_one(&mut self, alloc: Global, channel: u32, sent: u32, got: u32) -> Result<(), Memory>
         requires open { last_end self.old.journal ≡ None }
         requires more { events self.old.journal < self.old.limit }
         requires meet { (ch : Channel) × Meet self.old.system (state_of self.old.state) channel sent got ch }

@@ -1,7 +1,6 @@
 use Rattle.std.proofs.Common.{◌<◌, length, arith}
 use Rattle.cb_spec.specs.Stores.{look_of}
-use Rattle.cb_spec.specs.States.{IsAt, state_of}
-use Rattle.cb_spec.specs.Journals.{IsNumbered}
+use Rattle.cb_spec.specs.States.{state_of}
 use Rattle.cb_code.specs.declared.place.Place.TheVariants.{At}
 use Rattle.cb_code.specs.Nodes.{part}
 use Rattle.cb_settling.proofs.GoodLemmas.{can_resolve}

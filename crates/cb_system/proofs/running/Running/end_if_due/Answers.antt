@@ -1,7 +1,5 @@
-use Rattle.std.proofs.Common.{ℕ, ◌≡◌, ◌++◌, ◌∷◌, [], List, None, IfNone, inr, refl, sym, subst, ap, ◌∙◌}
-use Rattle.cb_spec.specs.declared.state.Entry.{Entry}
+use Rattle.std.proofs.Common.{◌≡◌, ◌++◌, ◌∷◌, [], IfNone, inr, refl, sym, subst, ap, ◌∙◌}
 use Rattle.cb_spec.specs.declared.state.Entry.TheVariants as entry
-use Rattle.cb_spec.specs.declared.state.End.{End}
 use Rattle.cb_spec.specs.States.{state_of}
 use Rattle.cb_spec.specs.Journals.{Due}
 use Rattle.cb_beginning.specs.Placed.{state_in}
@@ -24,8 +22,7 @@ returns-in_err-due-clause-none c =
 
 pub invariant_of-self : goal.invariant_of-self
 invariant_of-self c =
-    let i = c.self.inside in
-    (
+    let i = c.self.inside in (
       ends i.sound i.limit i.initial i.journal.items i.code i.store i.places.items i.bodies.items i.count i.end _ _ i.unsettled i.living c.self.invariant.0 c.in_ok-due.due _ _ _ (due_is i.sound i.limit i.initial i.journal.items i.code i.store i.places.items i.bodies.items i.count i.end _ _ i.unsettled i.living i.offers.rows c.self.invariant.1.rows_are c.self.invariant.0.0 c.self.invariant.0.1 c.self.invariant.0.3 c.in_ok-due.due c.in_ok-due.ensures) (sym c.self.invariant.0.0.end_is ∙ c.in_default.is) c.push_reserved.ensures.items,
       c.self.invariant.1,
     )

@@ -1,4 +1,4 @@
-use Rattle.std.proofs.Common.{ℕ, ◌≡◌, ◌<◌, List, length, sym, subst, ap, ◌∙◌, arith}
+use Rattle.std.proofs.Common.{◌<◌, List, length, sym, subst, arith}
 use Rattle.cb_code.specs.declared.place.Place.{Place}
 use Rattle.cb_offers.specs.declared.offers.Side.{Side}
 use Rattle.cb_system.specs.Views.{RunView}

@@ -1,4 +1,4 @@
-use Rattle.std.proofs.Common.{ℕ, ◌≡◌, ◌<◌, ◌++◌, ◌∷◌, [], List, length, slice_set, None, refl, sym, subst, ap, ◌∙◌, arith}
+use Rattle.std.proofs.Common.{◌<◌, ◌++◌, ◌∷◌, [], List, length, slice_set, refl, sym, subst, ap, ◌∙◌, arith}
 use Rattle.std.proofs.lemmas.Grind.{common_steps}
 use Rattle.cb_spec.specs.declared.state.Entry.{Entry}
 use Rattle.cb_spec.specs.declared.state.Entry.TheVariants as entry
@@ -73,10 +73,9 @@ invariant_of-self-2 c =
     let r = c.in_ok-passed.passed in
     let e : Entry = entry.Pass c.args.channel c.args.sent c.args.got r.values in
     let out = At r.out_next c.env_of.result in
-    let sent = tabled_over i.sound i.code i.places.items i.offers c.self.invariant.1 r.sender c.replace-place.new.dest out [] c.clear.new.self c.clear.ensures refl in
-    (
+    let sent = tabled_over i.sound i.code i.places.items i.offers c.self.invariant.1 r.sender c.replace-place.new.dest out [] c.clear.new.self c.clear.ensures refl in (
       step_passed_over i.sound i.limit i.initial i.journal.items i.code i.store i.places.items i.bodies.items i.count i.end _ _ i.unsettled i.living c.self.invariant.0 c.args.channel c.args.sent c.args.got c.in_ok-passed.passed passed _ _ _ _ c.push_reserved.new.self.items c.env_of.result c.replace-place.new.dest (ap (λ (r : RunView). last_end r.journal) c.self.view_is ∙ c.requires.open) (subst (λ (r : RunView). events r.journal < r.limit) (sym c.self.view_is) c.requires.more)
-      (c.push_reserved.ensures.items ∙ ap (λ (l : List Entry). l ++ e ∷ []) c.in_ok-reserve.ensures.items)
-      (c.env_of.ensures ∙ ap env_at (taken_is i.places.items r.sender c.index_mut.result.now c.replace-place.result _ (sender_at i.sound i.limit i.initial i.journal.items i.code i.store i.places.items i.bodies.items i.count i.end _ _ i.unsettled i.living c.self.invariant.0 c.args.channel c.args.sent c.args.got c.in_ok-passed.passed passed) c.index_mut.ensures.value c.replace-place.ensures.value)) (let p = c.push_reserved.ensures in let r = c.in_ok-reserve.ensures in omega (arith, p.len, p.capacity, r.len, r.capacity, r.ok)) refl refl,
+          (c.push_reserved.ensures.items ∙ ap (λ (l : List Entry). l ++ e ∷ []) c.in_ok-reserve.ensures.items)
+          (c.env_of.ensures ∙ ap env_at (taken_is i.places.items r.sender c.index_mut.result.now c.replace-place.result _ (sender_at i.sound i.limit i.initial i.journal.items i.code i.store i.places.items i.bodies.items i.count i.end _ _ i.unsettled i.living c.self.invariant.0 c.args.channel c.args.sent c.args.got c.in_ok-passed.passed passed) c.index_mut.ensures.value c.replace-place.ensures.value)) (let p = c.push_reserved.ensures in let r = c.in_ok-reserve.ensures in omega (arith, p.len, p.capacity, r.len, r.capacity, r.ok)) refl refl,
       tabled_set i.sound i.code (slice_set (slice_set i.places.items r.sender c.replace-place.new.dest) r.sender out) c.clear.new.self sent r.receiver (At r.in_next r.env) [] c.clear-2.new.self c.clear-2.ensures refl,
     )

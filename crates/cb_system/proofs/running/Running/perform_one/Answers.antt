@@ -1,4 +1,4 @@
-use Rattle.std.proofs.Common.{ℕ, ◌≡◌, ◌<◌, ◌++◌, ◌∷◌, [], List, length, None, refl, sym, subst, ap, ◌∙◌, arith}
+use Rattle.std.proofs.Common.{◌<◌, ◌++◌, ◌∷◌, [], List, length, refl, sym, subst, ap, ◌∙◌, arith}
 use Rattle.std.proofs.lemmas.Grind.{common_steps}
 use Rattle.cb_spec.specs.declared.state.Entry.{Entry}
 use Rattle.cb_spec.specs.declared.state.Entry.TheVariants as entry
@@ -46,9 +46,8 @@ invariant_of-self-2 g c =
     let i = c.self.inside in
     let performed = performed_fact i.sound c.spec.result.now i.code i.places.items c.as_slice.result.now (look_of i.store) c.args.controller c.args.branch c.in_ok-performed.performed c.in_ok-performed.ensures.ok c.spec.ensures.system c.as_slice.ensures.value in
     let r = c.in_ok-performed.performed in
-    let e : Entry = entry.Op c.args.controller c.args.branch r.machine r.operation r.args r.called.results r.called.written in
-    (
+    let e : Entry = entry.Op c.args.controller c.args.branch r.machine r.operation r.args r.called.results r.called.written in (
       step_performed i.sound i.limit i.initial i.journal.items i.code i.store i.places.items i.bodies.items i.count i.end _ _ i.unsettled i.living c.self.invariant.0 c.args.controller c.args.branch r performed _ _ _ _ c.push_reserved.new.self.items c.performed_at.new.store (ap (λ (r : RunView). last_end r.journal) c.self.view_is ∙ c.requires.open) (subst (λ (r : RunView). events r.journal < r.limit) (sym c.self.view_is) c.requires.more)
-      (c.push_reserved.ensures.items ∙ ap (λ (l : List Entry). l ++ e ∷ []) c.in_ok-reserve.ensures.items) c.in_ok-performed.ensures.written c.in_ok-performed.ensures.names (let p = c.push_reserved.ensures in let r = c.in_ok-reserve.ensures in omega (arith, p.len, p.capacity, r.len, r.capacity, r.ok)) refl refl,
+          (c.push_reserved.ensures.items ∙ ap (λ (l : List Entry). l ++ e ∷ []) c.in_ok-reserve.ensures.items) c.in_ok-performed.ensures.written c.in_ok-performed.ensures.names (let p = c.push_reserved.ensures in let r = c.in_ok-reserve.ensures in omega (arith, p.len, p.capacity, r.len, r.capacity, r.ok)) refl refl,
       tabled_set i.sound i.code i.places.items i.offers c.self.invariant.1 c.args.controller (At r.next r.env) [] c.clear.new.self c.clear.ensures refl,
     )

@@ -1,4 +1,4 @@
-use Rattle.std.proofs.Common.{ℕ, ◌≡◌, ◌<◌, ◌^◌, ◌++◌, ◌∷◌, [], List, length, None, IfNone, refl, sym, subst, ap, ◌∙◌, arith}
+use Rattle.std.proofs.Common.{◌<◌, ◌^◌, ◌++◌, ◌∷◌, [], List, length, IfNone, refl, sym, subst, ap, ◌∙◌, arith}
 use Rattle.cb_spec.specs.declared.state.Entry.{Entry}
 use Rattle.cb_spec.specs.declared.state.Entry.TheVariants as entry
 use Rattle.cb_spec.specs.Journals.{events}
@@ -48,8 +48,7 @@ pub returns-in_default-clause-journal : goal.returns-in_default-clause-journal
 returns-in_default-clause-journal g c =
     let i = c.self.inside in
     let some : IsElsewhere c.as_slice.result.now c.args.controller = subst (λ o. IfNone o (IsElsewhere c.as_slice.result.now c.args.controller)) c.in_default.is c.in_ok-settled.ensures.none in
-    let none : IsElsewhere i.places.items c.args.controller = subst (λ (qs : List Place). IsElsewhere qs c.args.controller) c.as_slice.ensures.value some in
-    (
+    let none : IsElsewhere i.places.items c.args.controller = subst (λ (qs : List Place). IsElsewhere qs c.args.controller) c.as_slice.ensures.value some in (
       subst (λ (r : RunView). ¬ IsUnresolved (state_of r.state) c.args.controller) c.self.view_is (resolved_there i.sound i.code i.store i.places.items c.args.controller none),
       ap (λ (l : List Entry). let v : RunView = record { system = i.sound; limit = i.limit; initial = i.initial; journal = l; state = state_in i.code i.store i.places.items } in v) c.in_ok-reserve.ensures.items ∙ c.self.view_is,
     )
@@ -72,12 +71,11 @@ invariant_of-self-2 g c =
     let i = c.self.inside in
     let settled = settled_fact i.sound c.spec.result.now i.code i.places.items c.as_slice.result.now c.args.controller _ c.in-Some.settled c.in_ok-settled.ensures.some c.in-Some.is c.spec.ensures.system c.as_slice.ensures.value in
     let e : Entry = entry.Settle c.args.controller c.in-Some.settled.1 in
-    let row = c.as_slice-3.ensures.value ∙ c.in_ok-row.ensures ∙ row_is i.code (env_at c.replace-place.result) c.in-Some.settled.0 ∙ ap (row_at i.code) (sym c.next.ensures) in
-    (
+    let row = c.as_slice-3.ensures.value ∙ c.in_ok-row.ensures ∙ row_is i.code (env_at c.replace-place.result) c.in-Some.settled.0 ∙ ap (row_at i.code) (sym c.next.ensures) in (
       step_settled i.sound i.limit i.initial i.journal.items i.code i.store i.places.items i.bodies.items i.count i.end _ _ i.unsettled i.living c.self.invariant.0 c.args.controller c.in-Some.settled.0 c.in-Some.settled.1 settled _ _ _ _ c.push_reserved.new.self.items c.replace-place.new.dest c.replace-place.result c.next.result (ap (λ (r : RunView). last_end r.journal) c.self.view_is ∙ c.requires.open) (subst (λ (r : RunView). events r.journal < r.limit) (sym c.self.view_is) c.requires.more)
-      (c.push_reserved.ensures.items ∙ ap (λ (l : List Entry). l ++ e ∷ []) c.in_ok-reserve.ensures.items)
-      (taken_is i.places.items c.args.controller c.index_mut.result.now c.replace-place.result _ settled.1.1.1.1.0 c.index_mut.ensures.value c.replace-place.ensures.value)
-      c.next.ensures (let p = c.push_reserved.ensures in let r = c.in_ok-reserve.ensures in omega (arith, p.len, p.capacity, r.len, r.capacity, r.ok)) refl c.living_after-self-inside.ensures,
+          (c.push_reserved.ensures.items ∙ ap (λ (l : List Entry). l ++ e ∷ []) c.in_ok-reserve.ensures.items)
+          (taken_is i.places.items c.args.controller c.index_mut.result.now c.replace-place.result _ settled.1.1.1.1.0 c.index_mut.ensures.value c.replace-place.ensures.value)
+          c.next.ensures (let p = c.push_reserved.ensures in let r = c.in_ok-reserve.ensures in omega (arith, p.len, p.capacity, r.len, r.capacity, r.ok)) refl c.living_after-self-inside.ensures,
       tabled_over i.sound i.code i.places.items i.offers c.self.invariant.1 c.args.controller c.replace-place.new.dest c.next.result c.as_slice-3.result.now c.set.new.self c.in_ok-set.ensures.ok row,
     )
 
@@ -85,8 +83,7 @@ pub returns-clause-journal : goal.returns-clause-journal
 returns-clause-journal g c =
     let i = c.self.inside in
     let settled = settled_fact i.sound c.spec.result.now i.code i.places.items c.as_slice.result.now c.args.controller _ c.in-Some.settled c.in_ok-settled.ensures.some c.in-Some.is c.spec.ensures.system c.as_slice.ensures.value in
-    let e : Entry = entry.Settle c.args.controller c.in-Some.settled.1 in
-    (
+    let e : Entry = entry.Settle c.args.controller c.in-Some.settled.1 in (
       subst (λ (r : RunView). IsUnresolved (state_of r.state) c.args.controller) c.self.view_is (unresolved_there i.sound i.code i.store i.places.items c.args.controller c.in-Some.settled.0 c.in-Some.settled.1 settled),
       (
         c.in-Some.settled.1,
