@@ -14,3 +14,4 @@ pub mod ShownLemmas
 pub mod FoundLemmas
 pub mod TabledLemmas
 pub mod StepsLemmas
+pub mod StartLemmas

@@ -9,3 +9,4 @@ pub mod Dues
 pub mod Tabled
 pub mod Steps
 pub mod Found
+pub mod Started

@@ -9,6 +9,7 @@ ghost use Rattle.cb_safety_laws.specs.Causes.{Meet};
 ghost use Rattle.cb_beginning.specs.Placed.{state_in};
 ghost use Rattle.cb_system.specs.Views.{last_end, IsSame, HasSettle, HasOp, HasPass};
 ghost use Rattle.cb_system.specs.Steps.{IsUnresolved, IsGoing, IsOver, HasFired, HasNone, IsStepped};
+ghost use Rattle.cb_system.specs.Started.{IsStarted};
 ghost use Rattle.cb_system.specs.Found.{HasCall, CanFire};
 
 use crate::branch::env_of;
@@ -18,6 +19,7 @@ use crate::pass::passed_at;
 use crate::perform::performed_at;
 use crate::row::row_shown;
 use crate::settled::{living_after, next, settled_at};
+use cb_beginning::begin::begin;
 use cb_code::code::Code;
 use cb_code::place::Place;
 use cb_offers::offers::Offers;
@@ -82,6 +84,39 @@ impl Model for Running {
 }
 
 impl Running {
+    /// A run of the system that begins: each machine's initialisation runs once, the picker taking the choices that it leaves, and
+    /// each controller is at its START call. At most `limit` calls and passes may follow. `Err`: want of memory.
+    pub fn start<P: Pick>(
+        alloc: Global,
+        sound: SoundSpec,
+        limit: u32,
+        pick: &mut P,
+    ) -> Result<Running, Memory>
+        ensures { IfOk result (IsStarted sound limit) }
+    {
+        let beginning = begin(alloc, &sound, pick)?;
+        let mut journal = Vec::new(alloc);
+        journal.reserve(1)?;
+        let controllers = beginning.places.len() as u32;
+        let channels = sound.spec().channels.as_slice().len() as u32;
+        let offers = Offers::new(alloc, channels, controllers)?;
+        Ok(Running {
+            sound,
+            limit,
+            initial: beginning.initial,
+            journal,
+            count: 0,
+            end: None,
+            code: beginning.code,
+            store: beginning.store,
+            places: beginning.places,
+            bodies: beginning.bodies,
+            offers,
+            unsettled: controllers,
+            living: controllers,
+        })
+    }
+
     /// The system.
     pub fn spec(&self) -> &System
         ensures { result.now ≡ self.now.system }
