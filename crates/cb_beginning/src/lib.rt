@@ -2,3 +2,6 @@
 #![tactic(auto)]
 
 pub mod begin;
+mod initial;
+mod layout;
+mod room;

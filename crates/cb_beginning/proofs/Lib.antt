@@ -1,0 +1,4 @@
+pub mod InitialLemmas
+pub mod RoomLemmas
+pub mod LayoutLemmas
+pub mod BeginLemmas
