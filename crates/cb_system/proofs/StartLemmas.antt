@@ -44,12 +44,12 @@ module _ (ps : List ProcessTree) (cs : List Controller) where
       let c = there cs k (low 0 k refl) in
       let head : control_of (tree_control ps p) ≡ begin_at (slice_get cs k) = (cc) in
       let tail : map control_of (map (tree_control ps) places) ≡ begun order = (cc) in
-      by p (head ∙ ap begin_at c.1) (all_at places order (below_rest (length cs) k order low) tail)
+      by p c.0 (head ∙ ap begin_at c.1) (all_at places order (below_rest (length cs) k order low) tail)
     where
-      by : (p : Place) {c : Controller} → control_of (tree_control ps p) ≡ begin_at (Some c) → AllAt places → AllAt (p ∷ places)
-      by (At j env) e rest = rest
-      by (Ready ks env) e rest = absurd (cc)
-      by Ended e rest = absurd (cc)
+      by : (p : Place) (c : Controller) → control_of (tree_control ps p) ≡ begin_at (Some c) → AllAt places → AllAt (p ∷ places)
+      by (At j env) c e rest = rest
+      by (Ready ks env) c e rest = absurd (cc)
+      by Ended c e rest = absurd (cc)
 
 unsettled_all : (places : List Place) → AllAt places → sum_by is_unsettled places ≡ length places
 unsettled_all [] h = refl
