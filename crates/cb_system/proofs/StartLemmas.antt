@@ -1,13 +1,13 @@
 -- A running value that begins keeps what it keeps.
-use Rattle.std.proofs.Common.{◌≡◌, ℕ, zero, suc, ◌+◌, ◌<◌, ◌^◌, List, [], ◌∷◌, map, length, replicate, slice_get, Option, None, Some, refl, sym, ap, subst, ◌∙◌, arith}
+use Rattle.std.proofs.Common.{◌≡◌, ℕ, suc, ◌<◌, ◌^◌, List, [], ◌∷◌, map, length, replicate, slice_get, None, Some, refl, sym, ap, subst, ◌∙◌, arith}
 use Rattle.std.specs.List.{sum_by}
 use Rattle.std.proofs.lemmas.List.Sums.{sum_by-cons}
 use Rattle.cb_spec.specs.declared.state.Entry.{Entry}
 use Rattle.cb_spec.specs.declared.system.Controller.{Controller}
 use Rattle.cb_spec.specs.declared.system.System.{System}
 use Rattle.cb_spec.specs.ProcessTree.{ProcessTree}
-use Rattle.cb_spec.specs.States.{ControlView, AtProcess, Offering, Done, StateView, control_of, state_of}
-use Rattle.cb_spec.specs.Journals.{begin_at, beginning}
+use Rattle.cb_spec.specs.States.{ControlView, StateView, control_of}
+use Rattle.cb_spec.specs.Journals.{begin_at}
 use Rattle.cb_spec.specs.Typed.{AllBelow, Typed}
 use Rattle.cb_spec.specs.Sound.{Sound, Good}
 use Rattle.cb_safety_laws.proofs.Lists.{there}
@@ -78,18 +78,19 @@ module _ (y : System) (typed : Typed y) (sound : Sound y) (limit : ℕ) (b : Beg
 
   pub started : (n len room k : ℕ) (es : List Entry) (offers : OffersView) → n ≡ length b.places.items → es ≡ [] → len < room → k ≡ length y.channels → offers ≡ record { channels = k; rows = replicate n [] } →
       (Keeps y limit b.initial es (state_in b.code b.store b.places.items) 0 None len room × Laid y b.code b.places.items b.bodies.items × IsRoomy y b.store × AreCounted b.places.items n n) × IsTabled y b.code b.places.items offers
-  started n len room k es offers many none some channels table = ((
-    subst (λ (l : List Entry). Keeps y limit b.initial l (state_in b.code b.store b.places.items) 0 None len room) (sym none) (record {
-      good = subst (Good y limit b.initial []) (sym begins.controls) (good_begins y typed sound limit b.initial begins.joined begins.begun begins.initial);
-      count_is = refl;
-      within = omega arith;
-      end_is = refl;
-      goes_on = λ e. tt;
-      space = λ e. some;
-    }),
-    begins.laid,
-    begins.room,
-    record { unsettled_is = many ∙ sym (unsettled_all b.places.items at_first); living_is = many ∙ sym (living_all b.places.items at_first) }
-  ),
+  started n len room k es offers many none some channels table = (
+    (
+      subst (λ (l : List Entry). Keeps y limit b.initial l (state_in b.code b.store b.places.items) 0 None len room) (sym none) (record {
+        good = subst (Good y limit b.initial []) (sym begins.controls) (good_begins y typed sound limit b.initial begins.joined begins.begun begins.initial);
+        count_is = refl;
+        within = omega arith;
+        end_is = refl;
+        goes_on = λ e. tt;
+        space = λ e. some;
+      }),
+      begins.laid,
+      begins.room,
+      record { unsettled_is = many ∙ sym (unsettled_all b.places.items at_first); living_is = many ∙ sym (living_all b.places.items at_first) },
+    ),
     record { rows_are = ap (λ (o : OffersView). o.rows) table ∙ ap (λ m. replicate m []) many ∙ no_rows b.code b.places.items at_first; channels_are = ap (λ (o : OffersView). o.channels) table ∙ channels },
   )
