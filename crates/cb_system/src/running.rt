@@ -40,14 +40,19 @@ pub struct Running {
     sound: SoundSpec,
     limit: u32,
     initial: Store,
+    // While nothing has ended it there is room for an entry more, so that want of memory can always end it.
     journal: Vec<Entry>,
+    // How many events are in it, and the cause that has ended it.
     count: u32,
     end: Option<End>,
     code: Code,
+    // The machines' variables, and a place for each parameter of an operation.
     store: Store,
+    // By the controllers' numbers: where they are, and the places of their definitions' bodies.
     places: Vec<Place>,
     bodies: Vec<Items<u32>>,
     offers: Offers,
+    // How many controllers are at a process that is not resolved yet, and how many have not ended.
     unsettled: u32,
     living: u32,
 }
