@@ -1,0 +1,17 @@
+pub mod JournalLemmas
+pub mod PlaceLemmas
+pub mod StepLemmas
+pub mod BranchLemmas
+pub mod CountLemmas
+pub mod FireLemmas
+pub mod CallLemmas
+pub mod PassLemmas
+pub mod FiredLemmas
+pub mod RowLemmas
+pub mod CauseLemmas
+pub mod DueLemmas
+pub mod ShownLemmas
+pub mod FoundLemmas
+pub mod TabledLemmas
+pub mod StepsLemmas
+pub mod StartLemmas

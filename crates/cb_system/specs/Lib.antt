@@ -1,0 +1,12 @@
+pub mod Views
+pub mod RunCodes
+pub mod Kept
+pub mod Moves
+pub mod Branches
+pub mod Firing
+pub mod Rows
+pub mod Dues
+pub mod Tabled
+pub mod Steps
+pub mod Found
+pub mod Started
