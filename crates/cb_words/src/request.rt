@@ -37,7 +37,18 @@ impl FileNames {
 #[derive(Drop)]
 pub enum Request {
     /// List what is to be proved of the text of these files, one at least.
-    List { files: FileNames },
+    List {
+        files: FileNames,
+    },
     /// Judge the text of these files, one at least.
-    Check { files: FileNames },
+    Check {
+        files: FileNames,
+    },
+    /// Run the system of the text of these files, one at least, on one thread. At most `limit` calls and passes happen, which is at
+    /// most 100,000; `seed`, which is below 2^32, takes the choices that are left.
+    Sim {
+        files: FileNames,
+        limit: u32,
+        seed: u64,
+    },
 }

@@ -1,9 +1,11 @@
 //! The reading of the words.
 ghost use Rattle.std.specs.Prelude.{◌≡◌, ℕ, List, map, string_bytes, IfOk, IsErrOf, Some, None, option_map};
-ghost use Rattle.cb_words.specs.Spelled.{spelled, request_by, on_files};
+ghost use Rattle.cb_words.specs.Numbers.{limit_by, seed_by};
+ghost use Rattle.cb_words.specs.Spelled.{spelled, request_by, on_files, on_run};
 
 use crate::fault::WordsFault;
 use crate::line::line_matches;
+use crate::numbers::{limit_of, seed_of};
 use crate::request::{FileNames, Request};
 use std::alloc::{AllocError, Global};
 
@@ -11,7 +13,7 @@ use std::alloc::{AllocError, Global};
 ///
 /// They form one command: an action, any number of files, and the options `--limit` and `--seed` with one value each,
 /// which may stand between the files, also as `--limit=5`. After `--` each word is a file or the action. `list` and
-/// `check` take one file at least, and no option.
+/// `check` take one file at least, and no option; `sim` takes one file at least, and each option in its range.
 ///
 /// # Errors
 ///
@@ -55,7 +57,34 @@ fn request_of(
         let files = files_alone(alloc, files, limit, seed)?;
         return Ok(Request::Check { files });
     }
+    if action == "sim" {
+        let (files, limit, seed) = run_words(alloc, files, limit, seed)?;
+        return Ok(Request::Sim { files, limit, seed });
+    }
     Err(WordsFault::Words)
+}
+
+// The files, the limit and the seed of an action that runs a text.
+fn run_words(
+    alloc: Global,
+    files: &[&str],
+    limit: Option<&str>,
+    seed: Option<&str>,
+) -> Result<(FileNames, u32, u64), WordsFault>
+    ensures request { IfOk result (λ r. (action : List (List ℕ) → ℕ → ℕ → Request) →
+        on_run action (map (λ v. v.now) files.now)
+        (limit_by (option_map (λ s. s.now) limit.entry)) (seed_by (option_map (λ s. s.now) seed.entry)) ≡ Some (action r.0 r.1 r.2)) }
+    ensures words { IsErrOf result WordsFault.Words → (action : List (List ℕ) → ℕ → ℕ → Request) →
+        on_run action (map (λ v. v.now) files.now)
+        (limit_by (option_map (λ s. s.now) limit.entry)) (seed_by (option_map (λ s. s.now) seed.entry)) ≡ None }
+{
+    let (Some(limit), Some(seed)) = (limit_of(limit), seed_of(seed)) else {
+        return Err(WordsFault::Words);
+    };
+    if files.is_empty() {
+        return Err(WordsFault::Words);
+    }
+    Ok((names_of(alloc, files)?, limit, seed))
 }
 
 // The files of an action that takes one at least, and no option.
