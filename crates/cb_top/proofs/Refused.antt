@@ -1,11 +1,12 @@
--- What is answered to a text that is judged, or listed, or neither.
-use Rattle.std.proofs.Common.{◌≡◌, ℕ, ◌≤◌, List, [], length, ap, ◌∙◌}
+-- What is answered to a text that is judged, listed or run, or refused.
+use Rattle.std.proofs.Common.{◌≡◌, ◌≢◌, ℕ, ◌≤◌, List, [], length, ap, ◌∙◌, subst}
 use Rattle.cb_lex.specs.declared.lexer.LexFault.TheVariants as lex
 use Rattle.cb_grammar.specs.declared.reading.SyntaxFault.{SyntaxFault}
 use Rattle.cb_grammar.specs.declared.reading.SyntaxFault.TheVariants as syntax
 use Rattle.cb_seq.specs.declared.sequent.Obligation.{Obligation}
 use Rattle.cb_spec.specs.declared.system.System.{System}
-use Rattle.cb_trace.specs.Texts.{listing_text}
+use Rattle.cb_trace.specs.Texts.{listing_text, open_count}
+use Rattle.cb_run_text.specs.RunTexts.{IsRunText}
 use Rattle.cb_verdicts.specs.declared.places.ProofFault.TheVariants as wrong
 use Rattle.cb_judged.specs.declared.judge.JudgeFault.TheVariants as judging
 use Rattle.cb_judged.specs.Kept.{JudgedView}
@@ -14,7 +15,7 @@ use Rattle.cb_accept.specs.declared.read.TextFault.{TextFault}
 use Rattle.cb_accept.specs.declared.read.TextFault.TheVariants as fault
 use Rattle.cb_words.specs.declared.request.Request.{Request}
 use Rattle.cb_words.specs.declared.request.Request.TheVariants as request
-use Rattle.cb_top.specs.Outcome.{Answer, verdict_answer, IsSyntaxAnswer, IsRefusal, IsOutcome, lexical, cut, refused_text, refused_proofs, spelled, ill, limited, answered, wrong_proof, right_proofs}
+use Rattle.cb_top.specs.Outcome.{Answer, verdict_answer, IsSyntaxAnswer, IsRefusal, IsOutcome, lexical, cut, refused_text, refused_proofs, spelled, ill, limited, answered, wrong_proof, right_proofs, IsRunAnswer, unproved, ran}
 use Rattle.cb_top.specs.declared.TheConstants.{MAX_BYTES}
 
 module _ (asked : Request) (bytes : List ℕ) (fits : length bytes ≤ MAX_BYTES) (answer : Answer) where
@@ -60,3 +61,19 @@ module _ (files : List (List ℕ)) (bytes : List ℕ) (fits : length bytes ≤ M
   judged j told e =
       cut fits told.read.tokens told.read.cut (spelled told.read.at told.text told.read.text told.proofs told.read.proofs
       (answered j.system told.well told.judged.within told.judged.owed told.judged.are_owed (right_proofs told.judged.right (e ∙ ap verdict_answer told.judged.found))))
+
+module _ (files : List (List ℕ)) (limit seed : ℕ) (bytes : List ℕ) (fits : length bytes ≤ MAX_BYTES) (answer : Answer) (j : JudgedView) (told : IsJudgedText bytes j) where
+  of_run : IsRunAnswer j.system limit j.lines answer → IsOutcome (request.Sim files limit seed) bytes answer
+  of_run a =
+      cut fits told.read.tokens told.read.cut (spelled told.read.at told.text told.read.text told.proofs told.read.proofs
+      (answered j.system told.well told.judged.within told.judged.owed told.judged.are_owed
+      (right_proofs told.judged.right (subst (λ ls. IsRunAnswer j.system limit ls answer) told.judged.found a))))
+
+  -- to one that is run though something isn't proved, its verdicts
+  pub not_run : open_count j.lines ≢ 0 → answer ≡ verdict_answer j.lines → IsOutcome (request.Sim files limit seed) bytes answer
+  not_run h e = of_run (unproved h e)
+
+  -- and else what a run prints
+  pub has_run : open_count j.lines ≡ 0 → (text : List ℕ) → IsRunText j.system limit text → answer ≡ record { status = 0; out = text; err = [] } →
+      IsOutcome (request.Sim files limit seed) bytes answer
+  has_run h text runs e = of_run (ran h text runs e)

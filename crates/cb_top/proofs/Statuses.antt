@@ -6,13 +6,15 @@ use Rattle.cb_lex.specs.declared.raw.proof.RawProof.{RawProof}
 use Rattle.cb_lex.specs.declared.raw.text.RawText.{RawText}
 use Rattle.cb_grammar.specs.declared.reading.SyntaxFault.{SyntaxFault}
 use Rattle.cb_grammar.specs.declared.reading.SyntaxFault.TheVariants as syntax
+use Rattle.cb_seq.specs.declared.sequent.ObName.{ObName}
 use Rattle.cb_seq.specs.declared.sequent.Obligation.{Obligation}
 use Rattle.cb_spec.specs.declared.system.System.{System}
+use Rattle.cb_trace.specs.declared.verdict.Verdict.{Verdict}
 use Rattle.cb_verdicts.specs.declared.places.ProofFault.{ProofFault}
 use Rattle.cb_verdicts.specs.declared.places.ProofFault.TheVariants as wrong
 use Rattle.cb_words.specs.declared.request.Request.{Request}
 use Rattle.cb_words.specs.declared.request.Request.TheVariants as request
-use Rattle.cb_top.specs.Outcome.{Answer, IsLexicalAnswer, IsSyntaxAnswer, IsProofAnswer, IsAnswer, IsAnswered, IsJudged, OutcomesHaveStatuses, open_status, too_long, lexical, cut, refused_text, refused_proofs, spelled, ill, limited, answered, wrong_proof, right_proofs}
+use Rattle.cb_top.specs.Outcome.{Answer, IsLexicalAnswer, IsSyntaxAnswer, IsProofAnswer, IsRunAnswer, unproved, ran, IsAnswer, IsAnswered, IsJudged, OutcomesHaveStatuses, open_status, too_long, lexical, cut, refused_text, refused_proofs, spelled, ill, limited, answered, wrong_proof, right_proofs}
 
 abbrev HasStatus : Answer → Type 0
 HasStatus answer = (answer.status ≤ 2) ⊎ (answer.status ≡ 7)
@@ -44,9 +46,14 @@ low_open : (n : ℕ) → open_status n ≤ 2
 low_open zero = omega arith
 low_open (suc n) = omega arith
 
+of_run : (y : System) (limit : ℕ) (ls : List (ObName × Verdict)) (answer : Answer) → IsRunAnswer y limit ls answer → HasStatus answer
+of_run y limit ls answer (unproved h e) = inl (subst (λ k. k ≤ 2) (sym (status_of e)) (low_open _))
+of_run y limit ls answer (ran h text runs e) = inl (omega (arith, status_of e))
+
 of_answer : (asked : Request) (y : System) (os : List Obligation) (ps : List RawProof) (answer : Answer) → IsAnswer asked y os ps answer → HasStatus answer
 of_answer (request.List files) y os ps answer e = inl (omega (arith, status_of e))
 of_answer (request.Check files) y os ps answer e = inl (subst (λ k. k ≤ 2) (sym (status_of e)) (low_open _))
+of_answer (request.Sim files limit seed) y os ps answer a = of_run y limit _ answer a
 
 of_answered : (asked : Request) (y : System) (os : List Obligation) (ps : List RawProof) (answer : Answer) → IsAnswered asked y os ps answer → HasStatus answer
 of_answered asked y os ps answer (wrong_proof f h e) = of_proof f answer e

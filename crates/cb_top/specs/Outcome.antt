@@ -1,5 +1,5 @@
 -- What a request answers on the bytes of its files: a status, and what is printed.
-use Rattle.std.specs.Prelude.{◌≡◌, ◌⊎◌, ℕ, zero, suc, ◌==◌, ◌≤◌, ◌<◌, false, true, ◌+◌, List, [], ◌∷◌, ◌++◌, length, drop, codes, Ok, Err, Option, Some, None, if◌then◌else◌}
+use Rattle.std.specs.Prelude.{◌≡◌, ◌≢◌, ◌⊎◌, ℕ, zero, suc, ◌==◌, ◌≤◌, ◌<◌, false, true, ◌+◌, List, [], ◌∷◌, ◌++◌, length, drop, codes, Ok, Err, Option, Some, None, if◌then◌else◌}
 use Rattle.std.specs.Fmt.{decimal}
 use Rattle.cb_term.specs.Table.{sizes_of}
 use Rattle.cb_lex.specs.Lexes.{Lexes, start}
@@ -23,6 +23,7 @@ use Rattle.cb_wp.specs.declared.limits.Which.TheVariants as which
 use Rattle.cb_arguments.specs.Scopes.{symbols_of}
 use Rattle.cb_trace.specs.Texts.{obligation_text, listing_text, open_count, verdict_text}
 use Rattle.cb_trace.specs.declared.verdict.Verdict.{Verdict}
+use Rattle.cb_run_text.specs.RunTexts.{IsRunText}
 use Rattle.cb_verdicts.specs.declared.places.ProofFault.{ProofFault}
 use Rattle.cb_verdicts.specs.declared.places.ProofFault.TheVariants as wrong
 use Rattle.cb_owed.specs.Lists.{AreOwed}
@@ -160,10 +161,17 @@ open_status (suc k) = 1
 abbrev pub verdict_answer : List (ObName × Verdict) → Answer
 verdict_answer ls = record { status = open_status (open_count ls); out = verdict_text ls; err = [] }
 
+-- what may be answered to a run of a system with these verdicts: they, where one isn't proved; else what a run of it prints
+pub data IsRunAnswer (y : System) (limit : ℕ) (ls : List (ObName × Verdict)) (answer : Answer) : Type 0 where
+  unproved : open_count ls ≢ 0 → answer ≡ verdict_answer ls → IsRunAnswer y limit ls answer
+  ran : open_count ls ≡ 0 → (text : List ℕ) → IsRunText y limit text → answer ≡ record { status = 0; out = text; err = [] } →
+      IsRunAnswer y limit ls answer
+
 -- what may be answered on these obligations of a system, each with at most one proof
 abbrev pub IsAnswer : Request → System → List Obligation → List RawProof → Answer → Type 0
 IsAnswer (request.List files) y os ps answer = answer ≡ record { status = 0; out = listing_text y.sets.sets.items os; err = [] }
 IsAnswer (request.Check files) y os ps answer = answer ≡ verdict_answer (verdicts (sizes_of y.sets) (symbols_of y) ps os)
+IsAnswer (request.Sim files limit seed) y os ps answer = IsRunAnswer y limit (verdicts (sizes_of y.sets) (symbols_of y) ps os) answer
 
 -- the first wrong proof is told; else all are judged
 pub data IsAnswered (asked : Request) (y : System) (os : List Obligation) (ps : List RawProof) (answer : Answer) : Type 0 where

@@ -8,6 +8,7 @@ use Rattle.cb_top.specs.Joined.{joined}
 abbrev pub names_of : Request → List (List ℕ)
 names_of (request.List files) = files
 names_of (request.Check files) = files
+names_of (request.Sim files limit seed) = files
 
 -- its bytes, where its files have these contents
 abbrev pub bytes_of : Request → List (List ℕ) → List ℕ
@@ -17,3 +18,4 @@ bytes_of request contents = joined contents
 abbrev pub TakesAccepted : Request → Type 0
 TakesAccepted (request.List files) = ⊥
 TakesAccepted (request.Check files) = ⊤
+TakesAccepted (request.Sim files limit seed) = ⊤

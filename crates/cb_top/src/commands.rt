@@ -20,7 +20,7 @@ use std::thread::Threads;
 
 /// Does what the words of a command line say, and answers the status of the program.
 ///
-/// The status is 0 where all is listed or proved and 1 where an obligation isn't proved, 2 where the text is ill formed, 3
+/// The status is 0 where all is listed or proved, or a run has ended, and 1 where an obligation isn't proved, 2 where the text is ill formed, 3
 /// where the words spell no request, 4 where a file can't be read, 5 where a write failed, 6 for want of memory, and 7 where a
 /// limit is passed. From 2 on a line on `err` says why; a text on `out` comes with 0, with 1, or cut with 5.
 pub fn command<R: Threads + Wait + Sync, F: Files, K: Sink, E: Sink, G: Gate + Sync>(
@@ -102,7 +102,9 @@ fn file_names(request: &Request) -> &[String]
     ensures { map string_bytes result.now ≡ names_of request.now }
 {
     match request {
-        Request::List { files } | Request::Check { files } => files.as_slice(),
+        Request::List { files } | Request::Check { files } | Request::Sim { files, .. } => {
+            files.as_slice()
+        }
     }
 }
 

@@ -11,6 +11,7 @@ ghost use Rattle.cb_top.specs.Outcome.{answer_of, ill_formed, ill_answer, limit_
 use crate::MAX_BYTES;
 use crate::code::{code_name, which_word};
 use crate::outcome::{Ending, Outcome, Refusal, Stop};
+use crate::run::run_bytes;
 use crate::sources::{Unread, read_files};
 use cb_accept::accept::{accept_text, list_text};
 use cb_accept::read::TextFault;
@@ -72,6 +73,7 @@ fn judge_bytes(alloc: Global, request: &Request, bytes: &[u8]) -> Result<Outcome
     match request {
         Request::List { .. } => list_bytes(alloc, bytes),
         Request::Check { .. } => check_bytes(alloc, bytes),
+        Request::Sim { limit, seed, .. } => run_bytes(alloc, bytes, *limit, *seed),
     }
 }
 
@@ -98,7 +100,7 @@ fn check_bytes(alloc: Global, bytes: &[u8]) -> Result<Outcome, AllocError>
 }
 
 // The outcome of a text that isn't judged.
-fn refusal(alloc: Global, fault: TextFault) -> Result<Outcome, AllocError>
+pub(crate) fn refusal(alloc: Global, fault: TextFault) -> Result<Outcome, AllocError>
     ensures { IfOk result (λ o. IsRefusal fault (answer_of o)) }
 {
     match fault {
@@ -157,7 +159,7 @@ fn listing(alloc: Global, system: &System, list: &[Obligation]) -> Result<Outcom
 }
 
 // The outcome of these verdicts.
-fn verdict_outcome(alloc: Global, lines: &[(ObName, Verdict)]) -> Result<Outcome, AllocError>
+pub(crate) fn verdict_outcome(alloc: Global, lines: &[(ObName, Verdict)]) -> Result<Outcome, AllocError>
     ensures { IfOk result (λ o. answer_of o ≡ verdict_answer lines.now) }
 {
     let text = verdict_text(alloc, lines)?;

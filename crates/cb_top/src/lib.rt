@@ -7,6 +7,7 @@ mod judge;
 pub mod laws;
 mod outcome;
 mod print;
+mod run;
 mod sources;
 
 pub use commands::{command, quiet_command};

@@ -6,3 +6,6 @@ returns-in-List c = rw c.in-List.is (IfOk-weaker c.list_bytes.result _ _ (λ o a
 
 pub returns-in-Check : goal.returns-in-Check
 returns-in-Check c = rw c.in-Check.is (IfOk-weaker c.check_bytes.result _ _ (λ o a. a _) c.check_bytes.ensures)
+
+pub returns-in-Sim : goal.returns-in-Sim
+returns-in-Sim c = rw c.in-Sim.is (IfOk-weaker c.run_bytes.result _ _ (λ o a. a _) c.run_bytes.ensures)
