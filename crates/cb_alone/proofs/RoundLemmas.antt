@@ -6,11 +6,12 @@ use Rattle.cb_spec.specs.declared.state.End.{End}
 use Rattle.cb_spec.specs.declared.state.End.TheVariants.{Memory}
 use Rattle.cb_spec.specs.declared.system.System.{System}
 use Rattle.cb_spec.specs.States.{StateView, state_of}
-use Rattle.cb_spec.specs.Journals.{Due, IsComplete}
+use Rattle.cb_spec.specs.Journals.{Due, Run, IsComplete}
 use Rattle.cb_system.specs.declared.running.Stepped.{Stepped}
 use Rattle.cb_system.specs.declared.running.Stepped.TheVariants.{Settled, Fired, Idle, Over}
 use Rattle.cb_system.specs.Views.{RunView, as_end, last_end}
 use Rattle.cb_system.specs.Steps.{IsGoing, IsOver, IsStepped}
+use Rattle.cb_alone.specs.Complete.{IsCompleteRun}
 use Rattle.cb_alone.specs.Rounds.{IsRound}
 use Rattle.cb_alone.proofs.EndLemmas.{end_more, event_no_end, complete_is}
 use Rattle.cb_alone.proofs.IdleLemmas.{IsIdle, idle_stops}
@@ -98,3 +99,12 @@ module _ (old now new : RunView) (n : ℕ) (due : Option End) (none : IfNone due
   pub round_is : last_end old.journal ≡ None → last_end now.journal ≢ Some Memory → IsFurther old now n → n ≡ length (state_of new.state).controls → (end : Option End) → end ≡ last_end new.journal → IsRound old.journal new.journal (is_some end)
   round_is unended fine further all None is = (sym is, round_longer unended further all (sym is))
   round_is unended fine further all (Some c) is = round_complete fine c (sym is)
+
+-- a run whose last round has ended the journal is complete
+pub run_complete : (y : System) (limit : ℕ) (past : List Entry) (v : RunView) (over : Bool) → v.system ≡ y → v.limit ≡ limit → Run v.system v.limit v.initial v.journal (state_of v.state) → IsRound past v.journal over → over ≡ true → IsCompleteRun y limit v
+run_complete y limit past v over system limit_is run round ended = record {
+  system = system;
+  limit_is = limit_is;
+  run = subst (λ z. Run z limit v.initial v.journal (state_of v.state)) system (subst (λ n. Run v.system n v.initial v.journal (state_of v.state)) limit_is run);
+  complete = subst (IsRound past v.journal) ended round;
+}

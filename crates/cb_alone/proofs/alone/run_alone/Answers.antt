@@ -3,6 +3,7 @@ use Rattle.cb_spec.specs.declared.system.System.{System}
 use Rattle.cb_spec.specs.States.{state_of}
 use Rattle.cb_alone.specs.Rounds.{IsRound}
 use Rattle.cb_alone.proofs.LengthLemmas.{run_length}
+use Rattle.cb_alone.proofs.RoundLemmas.{run_complete}
 use Rattle.cb_alone.proofs.alone.run_alone.Goals as goal
 
 pub rounds-smaller : goal.rounds-smaller
@@ -16,3 +17,9 @@ rounds-smaller c =
     let order = ap (λ (y : System). length y.order) done.system in
     let all = c.rounds.invariant.all in
     omega (arith, most, longer, limit, order, all)
+
+pub returns-then-branch : goal.returns-then-branch
+returns-then-branch c =
+    let new = c.step_each.new.running in
+    let done = c.in_ok-step_each.ensures in
+    run_complete c.args.sound c.args.limit c.rounds.running.journal new c.in_ok-step_each.field-0 (done.system ∙ c.rounds.invariant.system) (done.limit ∙ c.rounds.invariant.limit) done.run done.round c.if-branch.true
