@@ -1,5 +1,5 @@
 -- Where no controller can do anything, the run has come to an end.
-use Rattle.std.proofs.Common.{◌≡◌, ℕ, zero, suc, ◌<◌, List, [], ◌∷◌, length, inl, refl, arith}
+use Rattle.std.proofs.Common.{ℕ, suc, ◌<◌, List, [], ◌∷◌, length, inl, refl, arith}
 use Rattle.cb_term.specs.Values.{Look}
 use Rattle.cb_spec.specs.declared.state.Entry.{Entry}
 use Rattle.cb_spec.specs.declared.state.Entry.TheVariants as entry
@@ -7,7 +7,7 @@ use Rattle.cb_spec.specs.declared.state.End.TheVariants.{Ended, Quiet}
 use Rattle.cb_spec.specs.declared.system.System.{System}
 use Rattle.cb_spec.specs.ProcessTree.{ProcessTree}
 use Rattle.cb_spec.specs.States.{IsAt, ControlView, AtProcess, Offering, Done, StateView, state_of}
-use Rattle.cb_spec.specs.Journals.{IsEvent, Leads, AllSettled, IsStill}
+use Rattle.cb_spec.specs.Journals.{Leads, AllSettled, IsStill}
 use Rattle.cb_safety_laws.specs.Causes.{TakesPart}
 use Rattle.cb_safety_laws.proofs.Lists.{at_below}
 use Rattle.cb_system.specs.Views.{RunView}

@@ -1,5 +1,5 @@
 -- How long a journal can be.
-use Rattle.std.proofs.Common.{◌≡◌, ℕ, ◌+◌, ◌-◌, ◌*◌, ◌<◌, ◌≤◌, List, [], ◌∷◌, ◌++◌, map, length, slice_get, slice_set, subst, sym, arith}
+use Rattle.std.proofs.Common.{◌≡◌, ℕ, ◌+◌, ◌-◌, ◌*◌, ◌≤◌, List, [], ◌∷◌, ◌++◌, length, slice_get, subst, sym, arith}
 use Rattle.std.specs.List.{sum_by}
 use Rattle.cb_term.specs.declared.value.Value.{Value}
 use Rattle.cb_spec.specs.declared.state.Entry.{Entry}
@@ -7,7 +7,7 @@ use Rattle.cb_spec.specs.declared.state.Entry.TheVariants as entry
 use Rattle.cb_spec.specs.declared.state.End.{End}
 use Rattle.cb_spec.specs.declared.system.System.{System}
 use Rattle.cb_spec.specs.Stores.{Writes}
-use Rattle.cb_spec.specs.States.{ControlView, AtProcess, StateView}
+use Rattle.cb_spec.specs.States.{AtProcess, StateView}
 use Rattle.cb_spec.specs.Journals.{set_sizes, Settling, Operating, Passing, events, IsOpen, Step, Goes, begin_at, beginning, Run}
 use Rattle.cb_safety_laws.proofs.Lists.{map_length}
 use Rattle.cb_system.proofs.PlaceLemmas.{sum_set}
