@@ -28,7 +28,7 @@ pub fn run_alone(alloc: Global, sound: SoundSpec, limit: u32, seed: u64) -> Resu
     }
 }
 
-// One step of each controller in turn. Tells whether the journal has ended.
+// One step of each controller in turn, after which a cause that is due ends the journal. Tells whether it has ended.
 fn step_each(
     alloc: Global,
     running: &mut Running,
