@@ -1,0 +1,5 @@
+pub mod CountLemmas
+pub mod LengthLemmas
+pub mod EndLemmas
+pub mod IdleLemmas
+pub mod RoundLemmas

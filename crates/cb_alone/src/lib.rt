@@ -1,0 +1,4 @@
+//! Runs a sound system on one thread.
+#![tactic(auto)]
+
+pub mod alone;
