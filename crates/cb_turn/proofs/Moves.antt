@@ -11,20 +11,31 @@ use Rattle.cb_turn.specs.Views.{IsPrefix, IsRuled, Takes, taking, giving, split_
 use Rattle.cb_turn.proofs.Steps.{takes, gives, forks, merges, free_learns, holder_learns, starts_with}
 use Rattle.cb_turn.specs.Slots.{Shows, IsKept, Claims, Releases}
 
+-- the slots that are at home, each with its value
+abbrev Homes : Type 0 → Type 0
+Homes T = List (mathlib.Core.Option.Option (Option T))
+
 abbrev value_of : {T : Type 0} → List (ℕ × Option T) → Option T
 value_of [] = None
 value_of (c ∷ cs) = c.1
 
 module _ {T P E : Type 0} (plan : T → P) (list : T → List E) where
-  -- what the exchange owes, at these words and slots
-  abbrev Claimed : Step (Option T) → ℕ → View P E → List (View P E) → List ℕ → List (mathlib.Core.Option.Option (Option T)) → Type 0
+  -- ---- the start
+
+  pub begins : (x : T) (ws : List ℕ) (xs : List (Option T)) → ws ≡ 0 ∷ [] → xs ≡ Some x ∷ [] → IsKept plan list (opening_state ws xs (started (plan x) (list x)))
+  begins x ws xs a b = rw (a, b) record { items = x ∷ []; shows = (refl, refl); ruled = starts_with plan list x }
+
+  -- ---- a take
+
+  -- what the exchange of the word owes, at these words and slots
+  abbrev Claimed : Step (Option T) → ℕ → View P E → List (View P E) → List ℕ → Homes T → Type 0
   Claimed st id v views ws hs = (w : View P E) × (a : Act (Option T)) × Valid hs [] a
       × IsKept plan list record { words = slice_set ws 0 (either (slice_index ws 0 == 0) 1 (slice_index ws 0)); homes = homes_after hs [] a; views = slice_set views id w }
       × Claims plan list st (v, []) (slice_index ws 0) (w, carried_after [] a)
 
   claimed : (st : Step (Option T)) (id : ℕ) (v : View P E) → v.spent ≡ false → v.holds ≡ false → (s : State (Option T) (View P E)) (items : List T) → Shows plan list items s → IsRuled plan list items s.views → get_elem? s.views id ≡ some v → Claimed st id v s.views s.words s.homes
   claimed st id v live free s [] shows ruled at =
-      subst (λ (ws : List ℕ). Claimed st id v s.views ws s.homes) (sym shows.0) (subst (λ (hs : List (mathlib.Core.Option.Option (Option T))). Claimed st id v s.views (1 ∷ []) hs) (sym shows.1) (
+      subst (λ (ws : List ℕ). Claimed st id v s.views ws s.homes) (sym shows.0) (subst (λ (hs : Homes T). Claimed st id v s.views (1 ∷ []) hs) (sym shows.1) (
         v,
         keeps,
         tt,
@@ -33,7 +44,7 @@ module _ {T P E : Type 0} (plan : T → P) (list : T → List E) where
       ))
   claimed st id v live free s (x ∷ []) shows ruled at =
       let t = takes plan list id v live free x [] s.views ruled at in
-      subst (λ (ws : List ℕ). Claimed st id v s.views ws s.homes) (sym shows.0) (subst (λ (hs : List (mathlib.Core.Option.Option (Option T))). Claimed st id v s.views (0 ∷ []) hs) (sym shows.1) (
+      subst (λ (ws : List ℕ). Claimed st id v s.views ws s.homes) (sym shows.0) (subst (λ (hs : Homes T). Claimed st id v s.views (0 ∷ []) hs) (sym shows.1) (
         t.0,
         fetches 0 (Some x),
         refl,
@@ -53,6 +64,8 @@ module _ {T P E : Type 0} (plan : T → P) (list : T → List E) where
   pub claimed_is : (old me new : Me (Option T) (View P E)) (won : (x : T) × Takes plan list old.0 x me.0 × (me.1 ≡ (0, Some x) ∷ old.1)) → old.1 ≡ [] → new ≡ (me.0, (0, None) ∷ rest me.1) → new ≡ (taking old.0 (list won.0), (0, None) ∷ [])
   claimed_is old me new won bare emptied = emptied ∙ ap₂ (λ (u : View P E) (l : List (ℕ × Option T)). (u, (0, None) ∷ rest l)) won.1.2 (won.2 ∙ ap (λ (l : List (ℕ × Option T)). (0, Some won.0) ∷ l) bare)
 
+  -- ---- a split and a join
+
   shows_on : (s : State (Option T) (View P E)) (vs : List (View P E)) (items : List T) → Shows plan list items s → Shows plan list items record { words = s.words; homes = s.homes; views = vs }
   shows_on s vs [] h = h
   shows_on s vs (x ∷ []) h = h
@@ -66,8 +79,10 @@ module _ {T P E : Type 0} (plan : T → P) (list : T → List E) where
   joins id v other w live free first alive idle s h at apart at' = let vs : List (View P E) = slice_set (slice_set s.views id (joined v w)) other spent in
       record { items = h.items; shows = shows_on s vs h.items h.shows; ruled = merges plan list id v other w live free first alive idle h.items s.views h.ruled at apart at' }
 
-  -- what the release owes, at these words and slots
-  abbrev Released : Step (Option T) → ℕ → View P E → T → List (View P E) → List ℕ → List (mathlib.Core.Option.Option (Option T)) → Type 0
+  -- ---- a give
+
+  -- what the store of the word owes, at these words and slots
+  abbrev Released : Step (Option T) → ℕ → View P E → T → List (View P E) → List ℕ → Homes T → Type 0
   Released st id v x views ws hs = (w : View P E) × (a : Act (Option T)) × Valid hs ((0, Some x) ∷ []) a
       × IsKept plan list record { words = slice_set ws 0 0; homes = homes_after hs ((0, Some x) ∷ []) a; views = slice_set views id w }
       × Releases plan list st (v, (0, Some x) ∷ []) 0 (w, carried_after ((0, Some x) ∷ []) a)
@@ -76,7 +91,7 @@ module _ {T P E : Type 0} (plan : T → P) (list : T → List E) where
       → (s : State (Option T) (View P E)) (items : List T) → Shows plan list items s → IsRuled plan list items s.views → get_elem? s.views id ≡ some v → Released st id v x s.views s.words s.homes
   released st id v x live holds same pre s [] shows ruled at =
       let t = gives plan list id v x live holds same pre [] s.views ruled at in
-      subst (λ (ws : List ℕ). Released st id v x s.views ws s.homes) (sym shows.0) (subst (λ (hs : List (mathlib.Core.Option.Option (Option T))). Released st id v x s.views (1 ∷ []) hs) (sym shows.1) (
+      subst (λ (ws : List ℕ). Released st id v x s.views ws s.homes) (sym shows.0) (subst (λ (hs : Homes T). Released st id v x s.views (1 ∷ []) hs) (sym shows.1) (
         t.0,
         returns,
         tt,
@@ -99,21 +114,19 @@ module _ {T P E : Type 0} (plan : T → P) (list : T → List E) where
   released_is st old me new x out put tells = let is = filled old me x out put in
       tells x (ap (λ (m : Me (Option T) (View P E)). m.1) is) ∙ ap (λ (m : Me (Option T) (View P E)). (giving m.0 (list x), [])) is
 
-  -- at the end the slot has the value
+  -- ---- the end
+
+  -- while no pass is split off and the first is free, the slot has the value
   home : (id : ℕ) (v : View P E) → v.spent ≡ false → v.holds ≡ false → v.first ≡ true → v.splits ≡ 0 → (s : State (Option T) (View P E)) (items : List T) → Shows plan list items s → IsRuled plan list items s.views → get_elem? s.views id ≡ some v
       → (x : T) × (get_elem? s.homes 0 ≡ some (some (Some x))) × (v.plan ≡ Some (plan x)) × IsPrefix v.seen (list x)
   home id v live free first zero s [] shows ruled at = absurd (let a = (free_learns plan list id v live free [] s.views ruled at refl).1 first in omega arith)
   home id v live free first zero s (x ∷ []) shows ruled at = let t = takes plan list id v live free x [] s.views ruled at in
-      (x, ap (λ (hs : List (mathlib.Core.Option.Option (Option T))). get_elem? hs 0) shows.1, t.2.0, t.2.1)
+      (x, ap (λ (hs : Homes T). get_elem? hs 0) shows.1, t.2.0, t.2.1)
   home id v live free first zero s (x ∷ y ∷ ys) shows ruled at = absurd shows
 
-  pub closes : (id : ℕ) (v : View P E) → v.spent ≡ false → v.holds ≡ false → v.first ≡ true → v.splits ≡ 0 → (ws : List ℕ) (xs : List (Option T)) → Final (Seen (IsKept plan list) id v) ws xs
+  closes : (id : ℕ) (v : View P E) → v.spent ≡ false → v.holds ≡ false → v.first ≡ true → v.splits ≡ 0 → (ws : List ℕ) (xs : List (Option T)) → Final (Seen (IsKept plan list) id v) ws xs
       → (x : T) × (get_elem? xs 0 ≡ some (Some x)) × (v.plan ≡ Some (plan x)) × IsPrefix v.seen (list x)
   closes id v live free first zero ws xs f = let k = f.1.0 in let h = home id v live free first zero f.0 k.items k.shows k.ruled f.1.1 in (h.0, f.4 0 (Some h.0) h.1, h.2, h.3)
-
-  -- at the start
-  pub begins : (x : T) (ws : List ℕ) (xs : List (Option T)) → ws ≡ 0 ∷ [] → xs ≡ Some x ∷ [] → IsKept plan list (opening_state ws xs (started (plan x) (list x)))
-  begins x ws xs a b = rw (a, b) record { items = x ∷ []; shows = (refl, refl); ruled = starts_with plan list x }
 
   pub closed_some : (id : ℕ) (v : View P E) → v.spent ≡ false → v.holds ≡ false → v.first ≡ true → v.splits ≡ 0 → (ws : List ℕ) (xs : List (Option T)) (r : Option T) → Final (Seen (IsKept plan list) id v) ws xs → get_elem? xs 0 ≡ some r → IsSome r
   closed_some id v live free first zero ws xs r f at = let h = closes id v live free first zero ws xs f in

@@ -5,7 +5,7 @@ use std::collections::LinkedList;
 pub struct View<P, E> {
     /// It was joined to another pass, and knows nothing.
     pub spent: bool,
-    /// The plan of the value, and `None` only before the value is there.
+    /// The plan of the value. It is `None` before the value is there, and once the pass is joined.
     pub plan: Option<P>,
     /// The entries that it has seen. While it holds the value, this is the list that it took.
     pub seen: LinkedList<E>,

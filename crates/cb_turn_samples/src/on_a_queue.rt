@@ -1,6 +1,7 @@
 //! The turn over a queue with room for one value.
-ghost use Rattle.std.specs.Prelude.{◌≡◌};
+ghost use Rattle.std.specs.Prelude.{◌≡◌, OnOk};
 ghost use Rattle.cb_turn_queue.specs.Words.{facts, splits, IsFree, Belongs};
+ghost use Rattle.cb_turn_samples.specs.Given.{HasGiven};
 
 use crate::numbers::Numbers;
 use cb_turn_queue::{QueuePass, QueueTurn};
@@ -20,6 +21,7 @@ fn add<R: Wait>(
     ensures pass { Belongs turn.now pass.new × IsFree pass.new }
     ensures first { (facts pass.new).first ≡ (facts pass.old).first }
     ensures splits { splits pass.new ≡ splits pass.old }
+    ensures given { OnOk result (HasGiven (facts pass.old) number (facts pass.new)) }
 {
     let mut numbers = turn.take(rt, pass);
     let added = numbers.add(number);
