@@ -1,0 +1,5 @@
+pub mod Belonging
+pub mod Moves
+pub mod Orders
+pub mod Steps
+pub mod Sums
