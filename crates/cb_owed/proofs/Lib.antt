@@ -1,5 +1,2 @@
-pub mod Annotated
-pub mod Counting
 pub mod Listed
-pub mod Together
 pub mod Walked

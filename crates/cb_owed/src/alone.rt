@@ -9,14 +9,12 @@ ghost use Rattle.cb_conditions.specs.Conditions.{start_owes, loop_owes, match_ow
 ghost use Rattle.cb_conditions.specs.Fitting.{PlainController};
 ghost use Rattle.cb_owed.specs.Limits.{start_limit, loop_limit, match_limit};
 
+use crate::groups::{add_loop, add_match, add_start};
 use crate::limits::check_body;
-use crate::loops::add_loop;
-use crate::machines::start_within;
-use crate::matches::add_match;
-use crate::start::add_start;
 use cb_controlled_laws::laws::typed_controllers_are_plain;
 use cb_seq::sequent::Obligation;
 use cb_spec::system::{Controller, Definition, System};
+use cb_starts::machines::start_within;
 use cb_wp::limits::{MakeFault, Used, Which};
 use std::alloc::Global;
 

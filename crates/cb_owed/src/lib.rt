@@ -2,11 +2,7 @@
 #![tactic(auto)]
 
 pub mod alone;
-pub mod copies;
 pub mod groups;
 pub mod limits;
 pub mod list;
 pub mod loops;
-pub mod machines;
-pub mod matches;
-pub mod start;

@@ -8,8 +8,8 @@ ghost use Rattle.cb_ways.specs.Calls.{counts_of};
 ghost use Rattle.cb_owed.specs.Limits as limits;
 ghost use Rattle.cb_owed.specs.Parts.{body_limit, system_limit};
 
-use crate::machines::start_within;
 use cb_spec::system::{Controller, Definition, Machine, System};
+use cb_starts::machines::start_within;
 use cb_term::Memory;
 use cb_ways::visits::{branch_counts, calls_within, visits};
 use cb_wp::limits::{MakeFault, Which};
@@ -61,6 +61,19 @@ fn bodies_within(system: &System, counts: &Items<Items<u64>>, definitions: &[Def
     true
 }
 
+fn each_within(system: &System, counts: &Items<Items<u64>>, controllers: &[Controller]) -> bool
+    requires counts { counts.now ≡ counts_of system.now }
+    requires within { limits.machines_within system.now.machines ≡ true }
+    ensures { result ≡ limits.controllers_within system.now controllers.now }
+{
+    for controller in controllers {
+        if !bodies_within(system, counts, controller.definitions.as_slice()) {
+            return false;
+        }
+    }
+    true
+}
+
 fn controllers_within(
     alloc: Global,
     system: &System,
@@ -70,12 +83,27 @@ fn controllers_within(
     ensures { IfOk result (λ b. b ≡ limits.controllers_within system.now controllers.now) }
 {
     let counts = branch_counts(alloc, system)?;
-    for controller in controllers {
-        if !bodies_within(system, &counts, controller.definitions.as_slice()) {
-            return Ok(false);
-        }
+    Ok(each_within(system, &counts, controllers))
+}
+
+// What `check_body` does, with the numbers of branches that the operations have.
+fn check_counted(
+    system: &System,
+    counts: &Items<Items<u64>>,
+    definition: &Definition,
+) -> Result<(), MakeFault>
+    requires { counts.now ≡ counts_of system.now }
+    ensures calls { OnOk result (steps.calls_within system.now definition.now.body ≡ true) }
+    ensures visits { OnOk result (limits.body_within system.now definition.now ≡ true) }
+    ensures fault { IfErr result (λ e. (rest : Option Which) → Tells e (body_limit system.now definition.now rest)) }
+{
+    if !calls_within(system, counts, &definition.body) {
+        return Err(MakeFault::Limit(Which::Branches));
     }
-    Ok(true)
+    if !body_within(system, counts, definition) {
+        return Err(MakeFault::Limit(Which::Visits));
+    }
+    Ok(())
 }
 
 /// That the walk through the definition's body is within the limits: `Limit` with `Branches`, and then with `Visits`.
@@ -85,13 +113,7 @@ pub fn check_body(alloc: Global, system: &System, definition: &Definition) -> Re
     ensures fault { IfErr result (λ e. (rest : Option Which) → Tells e (body_limit system.now definition.now rest)) }
 {
     let counts = branch_counts(alloc, system)?;
-    if !calls_within(system, &counts, &definition.body) {
-        return Err(MakeFault::Limit(Which::Branches));
-    }
-    if !body_within(system, &counts, definition) {
-        return Err(MakeFault::Limit(Which::Visits));
-    }
-    Ok(())
+    check_counted(system, &counts, definition)
 }
 
 /// That the system is within the limits that come before all counting: `Limit` with `Controllers`, then with `Branches`, and then with

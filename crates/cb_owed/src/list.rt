@@ -13,10 +13,8 @@ ghost use Rattle.cb_owed.specs.Limits as limits;
 ghost use Rattle.cb_owed.specs.Limits.{first_limit};
 ghost use Rattle.cb_owed.specs.Parts as parts;
 
+use crate::groups::{add_loop, add_match, add_start};
 use crate::limits::check_system;
-use crate::loops::add_loop;
-use crate::matches::add_match;
-use crate::start::add_start;
 use cb_controlled_laws::laws::typed_controllers_are_plain;
 use cb_seq::sequent::Obligation;
 use cb_spec::system::{Controller, Definition, Machine, System};

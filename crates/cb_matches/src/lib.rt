@@ -1,0 +1,4 @@
+//! What the written annotations of controllers owe.
+#![tactic(auto)]
+
+pub mod matches;

@@ -1,0 +1,4 @@
+pub mod Counting
+pub mod Supposed
+pub mod Together
+pub mod Walked
