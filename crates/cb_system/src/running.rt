@@ -29,6 +29,7 @@ use cb_spec::state::{End, Entry};
 use cb_spec::store::Store;
 use cb_spec::system::System;
 use cb_term::Memory;
+use cb_turn::Kept;
 use sqlite_items::Items;
 use std::alloc::Global;
 use std::marker::Model;
@@ -55,6 +56,13 @@ pub struct Running {
     // How many controllers are at a process that is not resolved yet, and how many have not ended.
     unsettled: u32,
     living: u32,
+}
+
+/// What a running system works from: its system and its limit. It is what contracts see of both; no value of it is made.
+#[derive(Drop)]
+pub struct Plan {
+    pub system: System,
+    pub limit: u32,
 }
 
 /// What a step has done.
@@ -86,6 +94,16 @@ impl Model for Running {
     ghost view = { λ r. record { system = r.sound; limit = r.limit; initial = r.initial; journal = r.journal.items; state = state_in r.code r.store r.places.items } };
 
     ghost invariant = { λ r. (Keeps r.sound r.limit r.initial r.journal.items (state_in r.code r.store r.places.items) r.count r.end (vec_len r.journal) (vec_capacity r.journal) × Laid r.sound r.code r.places.items r.bodies.items × IsRoomy r.sound r.store × AreCounted r.places.items r.unsettled r.living) × IsTabled r.sound r.code r.places.items r.offers };
+}
+
+impl Kept for Running {
+    type Plan = Plan;
+
+    type Entry = Entry;
+
+    ghost plan = { λ r. record { system = r.system; limit = r.limit } };
+
+    ghost list = { λ r. r.journal };
 }
 
 impl Running {
