@@ -120,10 +120,14 @@ fn beginnings_at(alloc: Global, machines: &[Machine], places: &[u32]) -> Result<
 }
 
 /// The initialisations of the controller's machines, all at once.
-pub fn beginnings(alloc: Global, system: &System, controller: &Controller) -> Result<Subst, Memory>
-    ensures { IfOk result (λ s. s ≡ conditions.beginnings (machines_of system.now controller.now)) }
+pub fn beginnings(
+    alloc: Global,
+    system: &System,
+    controller: &Controller,
+) -> Result<Box<Subst>, Memory>
+    ensures { IfOk result (λ b. b.value ≡ conditions.beginnings (machines_of system.now controller.now)) }
 {
-    beginnings_at(
+    boxed_beginnings(
         alloc,
         system.machines.as_slice(),
         controller.machines.as_slice(),
