@@ -1,18 +1,13 @@
 -- A text on which `check` or `sim` ends with status 0 is accepted, and its system is safe.
-use Rattle.std.proofs.Common.{◌≡◌, ℕ, zero, suc, ◌+◌, ◌-◌, ◌^◌, ◌<◌, ◌≤◌, false, List, [], length, drop, Ok, refl, sym, ap, ◌∙◌, subst, arith, append-nil}
-use Rattle.std.proofs.lemmas.List.{length-drop}
+use Rattle.std.proofs.Common.{◌≡◌, ℕ, zero, suc, ◌≤◌, List, length, Ok, refl, sym, ap, ◌∙◌, arith}
 use Rattle.cb_lex.specs.Lexes.{Lexes, start}
 use Rattle.cb_lex.specs.declared.lexer.LexFault.{LexFault}
 use Rattle.cb_lex.specs.declared.lexer.LexFault.TheVariants.{BadByte, LongNumber, OpenComment, Memory}
 use Rattle.cb_lex.specs.declared.raw.proof.RawProof.{RawProof}
 use Rattle.cb_lex.specs.declared.raw.text.RawText.{RawText}
 use Rattle.cb_lex.specs.declared.token.Token.{Token}
-use Rattle.cb_grammar.specs.declared.parts.Part.TheVariants as part
 use Rattle.cb_grammar.specs.declared.reading.SyntaxFault.{SyntaxFault}
 use Rattle.cb_grammar.specs.declared.reading.SyntaxFault.TheVariants as syntax
-use Rattle.cb_amn_parse.specs.Lexemes.{Lexeme}
-use Rattle.cb_amn_parse.specs.Processes.{text_out}
-use Rattle.cb_amn_parse.specs.Spelling.{IsSpelled}
 use Rattle.cb_seq.specs.declared.sequent.Obligation.{Obligation}
 use Rattle.cb_spec.specs.declared.system.System.{System}
 use Rattle.cb_spec.specs.Journals.{set_sizes}
@@ -20,7 +15,6 @@ use Rattle.cb_obligations.specs.Sufficing.{ObligationsSuffice, SoundIsCallSafe}
 use Rattle.cb_typed.specs.Laws.{TypedMachinesFit, TypedMachinesKeepKinds, TypedMachinesOweKinded}
 use Rattle.cb_controlled_laws.specs.Laws.{TypedSystemsOweKinded, TypedSystemsAreSafe}
 use Rattle.cb_text_laws.specs.Laws.{TextIsTyped, EndsAreMore}
-use Rattle.cb_text_laws.specs.SpelledText.{IsSpelledText}
 use Rattle.cb_spelled.specs.Laws.{TokensAreBytes}
 use Rattle.cb_spelled_texts.specs.Laws.{SpelledIsSpelledText}
 use Rattle.cb_check.specs.Laws.{DerivedIsValid, DerivesWithoutBad}

@@ -1,5 +1,5 @@
 -- What a request answers on the bytes of its files: a status, and what is printed.
-use Rattle.std.specs.Prelude.{◌≡◌, ◌≢◌, ◌⊎◌, ℕ, zero, suc, ◌==◌, ◌≤◌, ◌<◌, false, true, ◌+◌, List, [], ◌∷◌, ◌++◌, length, drop, codes, Ok, Err, Option, Some, None, if◌then◌else◌}
+use Rattle.std.specs.Prelude.{◌≡◌, ◌≢◌, ◌⊎◌, ℕ, zero, suc, ◌==◌, ◌≤◌, ◌<◌, false, true, List, [], ◌∷◌, ◌++◌, length, drop, codes, Ok, Err, Option, Some, None, if◌then◌else◌}
 use Rattle.std.specs.Fmt.{decimal}
 use Rattle.cb_term.specs.Table.{sizes_of}
 use Rattle.cb_lex.specs.Lexes.{Lexes, start}
@@ -30,7 +30,6 @@ use Rattle.cb_owed.specs.Lists.{AreOwed}
 use Rattle.cb_owed.specs.Limits.{first_limit}
 use Rattle.cb_verdicts.specs.Proofs.{keys_of, first_wrong}
 use Rattle.cb_verdicts.specs.Verdicts.{verdicts}
-use Rattle.cb_judged.specs.declared.judge.JudgeFault.{JudgeFault}
 use Rattle.cb_judged.specs.declared.judge.JudgeFault.TheVariants as judging
 use Rattle.cb_accept.specs.Accepting.{SpellsText, SpellsProofs, IsWell}
 use Rattle.cb_accept.specs.declared.read.TextFault.{TextFault}

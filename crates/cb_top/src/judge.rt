@@ -159,7 +159,10 @@ fn listing(alloc: Global, system: &System, list: &[Obligation]) -> Result<Outcom
 }
 
 // The outcome of these verdicts.
-pub(crate) fn verdict_outcome(alloc: Global, lines: &[(ObName, Verdict)]) -> Result<Outcome, AllocError>
+pub(crate) fn verdict_outcome(
+    alloc: Global,
+    lines: &[(ObName, Verdict)],
+) -> Result<Outcome, AllocError>
     ensures { IfOk result (λ o. answer_of o ≡ verdict_answer lines.now) }
 {
     let text = verdict_text(alloc, lines)?;

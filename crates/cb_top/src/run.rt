@@ -59,12 +59,7 @@ fn run_outcome(
     ensures { IfOk result (λ o. (text : List ℕ) × IsRunText sound limit text × (answer_of o ≡ record { status = 0; out = text; err = [] })) }
 {
     let running = run_alone(alloc, sound, limit, seed)?;
-    let text = trace_text(
-        alloc,
-        running.spec(),
-        running.initial(),
-        running.journal(),
-    )?;
+    let text = trace_text(alloc, running.spec(), running.initial(), running.journal())?;
     Ok(Outcome::Text {
         ending: Ending::Done,
         text,
