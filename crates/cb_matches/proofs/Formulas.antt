@@ -1,16 +1,14 @@
--- Formulas one after another: counts, faults and sequents.
-use Rattle.std.proofs.Common.{◌≡◌, List, [], ◌++◌, append_assoc, sym, ap, subst, ◌∙◌}
+-- Formulas one after another: counts and faults.
+use Rattle.std.proofs.Common.{◌≡◌, List, [], ◌++◌, sym, ap, subst, ◌∙◌}
 use Rattle.std.proofs.lemmas.Grind.{flat_map-append}
 use Rattle.cb_term.specs.Tree.{FormulaTree}
-use Rattle.cb_seq.specs.Validity.{Claim}
-use Rattle.cb_obligations.specs.Pieces.{pieces}
 use Rattle.cb_obligations.specs.Steps.{Step, steps_under}
 use Rattle.cb_wp.specs.declared.limits.MakeFault.{MakeFault}
 use Rattle.cb_wp.specs.declared.limits.Used.{Used}
 use Rattle.cb_wp.specs.Limits.{Counted, Faulted, count}
 use Rattle.cb_wp.proofs.CountLemmas.{count_after}
 use Rattle.cb_ways.proofs.WalkLemmas.{faulted_before, faulted_after}
-use Rattle.cb_matches.specs.Matches.{formulas_steps, formulas_claims}
+use Rattle.cb_matches.specs.Matches.{formulas_steps}
 
 formulas_both : (fs gs hs : List FormulaTree) → hs ≡ fs ++ gs → formulas_steps hs ≡ formulas_steps fs ++ formulas_steps gs
 formulas_both fs gs hs is = ap formulas_steps is ∙ flat_map-append (λ (f : FormulaTree). steps_under [] 0 [] [] f) fs gs
@@ -20,12 +18,6 @@ pub counted_both : (fs gs hs : List FormulaTree) (u v w : Used) → hs ≡ fs ++
 counted_both fs gs hs u v w is p q =
     ap (λ l. count u.obligations u.nodes l) (formulas_both fs gs hs is)
     ∙ count_after (formulas_steps fs) (formulas_steps gs) u.obligations u.nodes v.obligations v.nodes p ∙ q
-
-pub claims_both : (fs gs hs : List FormulaTree) (old mid new : List Claim) → hs ≡ fs ++ gs → mid ≡ old ++ formulas_claims fs → new ≡ mid ++ formulas_claims gs →
-    new ≡ old ++ formulas_claims hs
-claims_both fs gs hs old mid new is p q =
-    q ∙ ap (λ l. l ++ formulas_claims gs) p ∙ append_assoc old (formulas_claims fs) (formulas_claims gs)
-    ∙ ap (λ l. old ++ l) (sym (flat_map-append (λ (f : FormulaTree). pieces [] [] 0 f) fs gs)) ∙ ap (λ l. old ++ formulas_claims l) (sym is)
 
 pub fault_first : (fs gs hs : List FormulaTree) (u : Used) (e : MakeFault) → hs ≡ fs ++ gs → Faulted e u (formulas_steps fs) → Faulted e u (formulas_steps hs)
 fault_first fs gs hs u e is f =

@@ -1,7 +1,6 @@
--- The way through a definition's body, and what is counted on it.
-use Rattle.std.proofs.Common.{◌≡◌, List, ◌∷◌, ◌++◌, sym, ap, subst, ◌∙◌}
+-- What is supposed where a definition's body begins, and the limit on the way.
+use Rattle.std.proofs.Common.{◌≡◌, List, ◌∷◌, sym, ap, subst, ◌∙◌}
 use Rattle.cb_term.specs.Tree.{Var, FormulaTree, And}
-use Rattle.cb_seq.specs.Validity.{Claim}
 use Rattle.cb_spec.specs.declared.system.Controller.{Controller}
 use Rattle.cb_spec.specs.declared.system.Declared.{Declared}
 use Rattle.cb_spec.specs.declared.system.Definition.{Definition}
@@ -10,14 +9,12 @@ use Rattle.cb_spec.specs.Domains.{typing}
 use Rattle.cb_obligations.specs.Steps.{Reach}
 use Rattle.cb_wp.specs.declared.limits.MakeFault.{MakeFault}
 use Rattle.cb_wp.specs.declared.limits.Used.{Used}
-use Rattle.cb_wp.specs.Limits.{Counted, Faulted}
+use Rattle.cb_wp.specs.Limits.{Faulted}
 use Rattle.cb_conditions.specs.Conditions.{own_names, typings, known}
 use Rattle.cb_conditions.specs.Steps.{way_steps, loop_steps}
-use Rattle.cb_conditions.specs.Ways.{Way, at_first, opening_each, supposing, ways}
-use Rattle.cb_symbolic.specs.Walks.{Passes, Stops}
-use Rattle.cb_starts.proofs.Counting.{counted_past, fault_past}
+use Rattle.cb_conditions.specs.Ways.{Way, at_first, opening_each, supposing}
+use Rattle.cb_symbolic.specs.Walks.{Stops}
 use Rattle.cb_starts.proofs.Supposed.{supposing_both, stops_both}
-use Rattle.cb_owed.specs.Parts.{loop_ways}
 
 -- ---- one declared name more
 
@@ -47,7 +44,7 @@ module _ (w v : Way) (f g h : FormulaTree) (is_v : v ≡ supposing w f) where
   pub stops_second : (e : MakeFault) → Stops e (Reach (supposing v g).hypotheses) → Stops e (Reach (supposing w (And f (And g h))).hypotheses)
   stops_second e s = subst (λ (x : Way). Stops e (Reach x.hypotheses)) both_known (stops_both v g h e s)
 
--- ---- through a definition's body
+-- ---- at the beginning of a definition's body
 
 module _ (y : System) (c : Controller) (d : Definition) (first opened : Way) (u : Used)
     (is_first : first ≡ at_first (own_names y c)) (is_opened : opened ≡ opening_each first d.params) where
@@ -57,20 +54,3 @@ module _ (y : System) (c : Controller) (d : Definition) (first opened : Way) (u 
   pub knowing_stops : (e : MakeFault) → Stops e (Reach (supposing opened (known y c d)).hypotheses) → Faulted e u (loop_steps y c d)
   knowing_stops e s =
       subst (λ (w : Way). Stops e (Reach w.hypotheses)) begun s u (way_steps y c d.body (supposing (opening_each (at_first (own_names y c)) d.params) (known y c d)))
-
-  module _ (reached : Way) (is_reached : reached ≡ supposing opened (known y c d)) (passes : Passes (Reach (supposing opened (known y c d)).hypotheses)) where
-    on_knowing : Passes (Reach (supposing (opening_each (at_first (own_names y c)) d.params) (known y c d)).hypotheses)
-    on_knowing = subst (λ (w : Way). Passes (Reach w.hypotheses)) begun passes
-
-    pub body_counted : (v : Used) → Counted u v (way_steps y c d.body reached) → Counted u v (loop_steps y c d)
-    body_counted v p =
-        counted_past (Reach (supposing (opening_each (at_first (own_names y c)) d.params) (known y c d)).hypotheses) (way_steps y c d.body (supposing (opening_each (at_first (own_names y c)) d.params) (known y c d))) u v on_knowing
-        (subst (λ (w : Way). Counted u v (way_steps y c d.body w)) (is_reached ∙ begun) p)
-
-    pub body_made : (old new : List Claim) → new ≡ old ++ ways y c d.body reached → new ≡ old ++ loop_ways y c d
-    body_made old new p = p ∙ ap (λ w. old ++ ways y c d.body w) (is_reached ∙ begun)
-
-    pub body_stops : (e : MakeFault) → Faulted e u (way_steps y c d.body reached) → Faulted e u (loop_steps y c d)
-    body_stops e s =
-        fault_past (Reach (supposing (opening_each (at_first (own_names y c)) d.params) (known y c d)).hypotheses) (way_steps y c d.body (supposing (opening_each (at_first (own_names y c)) d.params) (known y c d))) u e on_knowing
-        (subst (λ (w : Way). Faulted e u (way_steps y c d.body w)) (is_reached ∙ begun) s)
